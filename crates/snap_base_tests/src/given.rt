@@ -1,9 +1,9 @@
 //! What several of the tests build.
 
 ghost use Rattle.std.specs.Prelude.{◌≡◌, IfOk, length};
-ghost use Rattle.snap_core.specs.Programs.{IsBounded, IsInForm};
+ghost use Rattle.snap_core.specs.Programs.{IsBounded, IsWellFormed};
 ghost use Rattle.snap_dep.specs.Ranks.{IsGrouping};
-ghost use Rattle.snap_topo.specs.Form.{IsInForm as IsTopology};
+ghost use Rattle.snap_topology.specs.Form.{IsWellFormed as IsTopology};
 
 use snap_core::program::Program;
 use snap_dep::calls::groups;
@@ -11,7 +11,7 @@ use snap_dep::groups::Groups;
 use snap_lex::tokens;
 use snap_names::resolve;
 use snap_parse::parse;
-use snap_topo::topology::Topology;
+use snap_topology::topology::Topology;
 use std::alloc::Global;
 use std::test::Fail;
 
@@ -33,7 +33,7 @@ const ARRAYS: &str = "array orphan; array susp-client; array blacklist; id";
 /// The program that a text spells.
 pub(crate) fn program(alloc: Global, text: &str) -> Result<Program, Fail>
     ensures bounded { IfOk result IsBounded }
-    ensures in_form { IfOk result IsInForm }
+    ensures well_formed { IfOk result IsWellFormed }
 {
     let text = text.as_bytes();
     if text.len() > 262_144 {
@@ -54,16 +54,16 @@ pub(crate) struct Setting {
 
 /// Three arrays, of which no two are tied, and the square.
 pub(crate) fn three_arrays(alloc: Global) -> Result<Setting, Fail>
-    ensures groups { IfOk result (λ setting. IsGrouping setting.program.body (length setting.program.vars) setting.groups) }
-    ensures three { IfOk result (λ setting. length setting.program.vars ≡ 3) }
+    ensures groups { IfOk result (λ setting. IsGrouping setting.program.body (length setting.program.arrays) setting.groups) }
+    ensures three { IfOk result (λ setting. length setting.program.arrays ≡ 3) }
     ensures form { IfOk result (λ setting. IsTopology setting.topology) }
 {
     let program = program(alloc, ARRAYS)?;
-    if program.vars.items().len() != 3 {
+    if program.arrays.items().len() != 3 {
         return Err("not three arrays")?;
     }
     let groups = groups(alloc, &program)?;
-    let topology = snap_topo::read(alloc, SQUARE.as_bytes())?;
+    let topology = snap_topology::read(alloc, SQUARE.as_bytes())?;
     Ok(Setting {
         program,
         groups,

@@ -6,16 +6,16 @@ mod given;
 #[cfg(test)]
 mod of_core;
 #[cfg(test)]
+mod of_demand;
+#[cfg(test)]
 mod of_dep;
 #[cfg(test)]
 mod of_io;
 #[cfg(test)]
-mod of_place;
+mod of_placement;
 #[cfg(test)]
-mod of_route;
+mod of_report;
 #[cfg(test)]
-mod of_seek;
+mod of_routes;
 #[cfg(test)]
-mod of_topo;
-#[cfg(test)]
-mod of_trace;
+mod of_topology;

@@ -15,9 +15,9 @@ use Rattle.snap_core.specs.Packets.{no_packets, with_packet, listed}
 use Rattle.snap_core.specs.Tests.{OutFits, PartFits}
 use Rattle.snap_core.proofs.EvalLemmas.{each_one}
 use Rattle.snap_core.proofs.Updates.{updates-append}
-use Rattle.snap_fdd.specs.Bounds.{Sizes, LeafIn, UpdateIn}
-use Rattle.snap_fdd.specs.Leaves.{answer_of, outcome_of}
-use Rattle.snap_chain.specs.Additions.{AreSame}
+use Rattle.snap_diagrams.specs.Bounds.{Sizes, LeafIn, UpdateIn}
+use Rattle.snap_diagrams.specs.Leaves.{answer_of, outcome_of}
+use Rattle.snap_compose.specs.Additions.{AreSame}
 use Rattle.snap_build.specs.Parts.{PolIn, UpdatesAlone, update_leaf, updates_of}
 
 pub alone_evals : (p : Pol) → UpdatesAlone p → (m : Arrays) (k : List ℕ) → eval p m k ≡ Some (record { arrays = updates m (updates_of p) k; packets = with_packet no_packets k; reads = 0; writes = write_vars p })
@@ -33,7 +33,7 @@ alone_evals (Seq' _ p _ q) a m k =
 alone_evals (If' x _ p _ q) a m k = absurd a
 alone_evals (Atomic' _ p) a m k = absurd a
 
-pub alone_fits : (s : Sizes) (p : Pol) → UpdatesAlone p → PolIn s p → All (UpdateIn s) (updates_of p) × (write_vars p < 2 ^ s.vars)
+pub alone_fits : (s : Sizes) (p : Pol) → UpdatesAlone p → PolIn s p → All (UpdateIn s) (updates_of p) × (write_vars p < 2 ^ s.arrays)
 alone_fits s (Filter x) a h = absurd a
 alone_fits s (Set c n) a h = absurd a
 alone_fits s (Change u) a h = (All-cons (UpdateIn s) u [] h (All-nil (UpdateIn s)), pow-lt h.var)
@@ -41,7 +41,7 @@ alone_fits s (Par' _ p _ q) a h = absurd a
 alone_fits s (Seq' _ p _ q) a h =
     let l = alone_fits s p a.0 h.0 in
     let r = alone_fits s q a.1 h.1 in
-    (All-append (UpdateIn s) (updates_of p) (updates_of q) l.0 r.0, or_lt s.vars (write_vars p) (write_vars q) l.1 r.1)
+    (All-append (UpdateIn s) (updates_of p) (updates_of q) l.0 r.0, or_lt s.arrays (write_vars p) (write_vars q) l.1 r.1)
 alone_fits s (If' x _ p _ q) a h = absurd a
 alone_fits s (Atomic' _ p) a h = absurd a
 

@@ -8,16 +8,16 @@ use Rattle.snap_core.specs.Arrays.{Arrays}
 use Rattle.snap_core.specs.Meaning.{truth, vars_of}
 use Rattle.snap_core.proofs.Together.{or_assoc}
 use Rattle.snap_dep.specs.Ranks.{Grouping}
-use Rattle.snap_ctx.specs.View.{View}
-use Rattle.snap_arena.specs.declared.node.Node.{Node}
-use Rattle.snap_arena.specs.Arena.{Grew}
-use Rattle.snap_fdd.specs.declared.leaf.Leaf.{Leaf}
-use Rattle.snap_fdd.specs.Contexts.{Under}
-use Rattle.snap_fdd.specs.Diagrams.{Only, diagram, walk}
-use Rattle.snap_fdd.specs.Leaves.{answer_of}
-use Rattle.snap_fdd.proofs.Shared.{kept, argument_kept}
-use Rattle.snap_join.specs.Predicates.{IsPredicateLeaf, passed, reads_of, holds, reads, test_answer, reads_of_both}
-use Rattle.snap_join.proofs.Tested.{answer_is}
+use Rattle.snap_context.specs.View.{View}
+use Rattle.snap_diagrams.specs.declared.node.Node.{Node}
+use Rattle.snap_diagrams.specs.Arena.{ExtendsArena}
+use Rattle.snap_diagrams.specs.declared.leaf.Leaf.{Leaf}
+use Rattle.snap_diagrams.specs.Contexts.{Under}
+use Rattle.snap_diagrams.specs.Diagrams.{Only, diagram, walk}
+use Rattle.snap_diagrams.specs.Leaves.{answer_of}
+use Rattle.snap_diagrams.proofs.Shared.{kept, argument_kept}
+use Rattle.snap_compose.specs.Predicates.{IsPredicateLeaf, passed, reads_of, holds, reads, test_answer, reads_of_both}
+use Rattle.snap_compose.proofs.Tested.{answer_is}
 use Rattle.snap_build.specs.declared.chains.Link.{Link}
 use Rattle.snap_build.specs.Chains.{joined, holding, reading, AreLinks, IsLink, IsLinkOf, IsSplit, IsTrueLink}
 use Rattle.snap_build.specs.Parts.{IsTestOf, IsTold, test_leaf}
@@ -31,10 +31,10 @@ told_same v P Q R S ns d h t = record {
   answer = λ m k met. let e = h m k met in t.answer m k met ∙ (λ i. test_answer (e.0 i) (e.1 i) k);
 }
 
-holds_kept : (old new : List (Node Leaf)) (d : ℕ) → Grew old new → d < length old → (m : Arrays) (k : List ℕ) → holds new d m k ≡ holds old d m k
+holds_kept : (old new : List (Node Leaf)) (d : ℕ) → ExtendsArena old new → d < length old → (m : Arrays) (k : List ℕ) → holds new d m k ≡ holds old d m k
 holds_kept old new d more h m k = ap (λ y. passed (walk y m k)) (kept old new d more h)
 
-reads_kept : (old new : List (Node Leaf)) (d : ℕ) → Grew old new → d < length old → (m : Arrays) (k : List ℕ) → reads new d m k ≡ reads old d m k
+reads_kept : (old new : List (Node Leaf)) (d : ℕ) → ExtendsArena old new → d < length old → (m : Arrays) (k : List ℕ) → reads new d m k ≡ reads old d m k
 reads_kept old new d more h m k = ap (λ y. reads_of (walk y m k)) (kept old new d more h)
 
 -- ---- links
@@ -46,17 +46,17 @@ link_same g v P Q R S ns l e h = record { diagram = h.diagram; last = h.last; to
 pub own_link : (g : Grouping) (v : View) (P : Arrays → List ℕ → Bool) (R : Arrays → List ℕ → ℕ) (ns : List (Node Leaf)) (l : Link) → IsLinkOf g v P R ns l → IsLink g v ns l
 own_link g v P R ns l h = link_same g v P (holds ns l.diagram) R (reads ns l.diagram) ns l (λ m k met. let e = told_is v P R ns l.diagram h.told m k met in (sym e.0, sym e.1)) h
 
-pub link_kept : (g : Grouping) (v : View) (P : Arrays → List ℕ → Bool) (R : Arrays → List ℕ → ℕ) (old new : List (Node Leaf)) (l : Link) → Grew old new → IsLinkOf g v P R old l → IsLinkOf g v P R new l
+pub link_kept : (g : Grouping) (v : View) (P : Arrays → List ℕ → Bool) (R : Arrays → List ℕ → ℕ) (old new : List (Node Leaf)) (l : Link) → ExtendsArena old new → IsLinkOf g v P R old l → IsLinkOf g v P R new l
 link_kept g v P R old new l more h = record {
   diagram = argument_kept g v old new l.diagram more h.diagram;
   last = argument_kept g v old new l.last more h.last;
   told = told_kept v P R old new l.diagram more h.diagram.below h.told;
 }
 
-pub own_kept : (g : Grouping) (v : View) (old new : List (Node Leaf)) (l : Link) → Grew old new → IsLink g v old l → IsLink g v new l
+pub own_kept : (g : Grouping) (v : View) (old new : List (Node Leaf)) (l : Link) → ExtendsArena old new → IsLink g v old l → IsLink g v new l
 own_kept g v old new l more h = own_link g v (holds old l.diagram) (reads old l.diagram) new l (link_kept g v (holds old l.diagram) (reads old l.diagram) old new l more h)
 
-pub links_kept : (g : Grouping) (v : View) (old new : List (Node Leaf)) (ls : List Link) → Grew old new → All (IsLink g v old) ls → All (IsLink g v new) ls
+pub links_kept : (g : Grouping) (v : View) (old new : List (Node Leaf)) (ls : List Link) → ExtendsArena old new → All (IsLink g v old) ls → All (IsLink g v new) ls
 links_kept g v old new ls more h = All-weaker (IsLink g v old) (IsLink g v new) (λ l. own_kept g v old new l more) ls h
 
 -- ---- two of them
@@ -89,14 +89,14 @@ two_links any g v P Q R S old new a b l ha hb h =
     ((λ i. joined any (x.0 i) (y.0 i)), (λ i. bit_or (x.1 i) (y.1 i)))) h
 
 -- ---- lists of them
-pub holding_kept : (any : Bool) (g : Grouping) (v : View) (old new : List (Node Leaf)) (ls : List Link) → Grew old new → All (IsLink g v old) ls → (m : Arrays) (k : List ℕ) → holding any new ls m k ≡ holding any old ls m k
+pub holding_kept : (any : Bool) (g : Grouping) (v : View) (old new : List (Node Leaf)) (ls : List Link) → ExtendsArena old new → All (IsLink g v old) ls → (m : Arrays) (k : List ℕ) → holding any new ls m k ≡ holding any old ls m k
 holding_kept any g v old new [] more h m k = refl
 holding_kept any g v old new (l ∷ ls) more h m k =
     let e = holds_kept old new l.diagram more (All-head (IsLink g v old) l ls h).diagram.below m k in
     let f = holding_kept any g v old new ls more (All-tail (IsLink g v old) l ls h) m k in
     λ i. joined any (e i) (f i)
 
-pub reading_kept : (g : Grouping) (v : View) (old new : List (Node Leaf)) (ls : List Link) → Grew old new → All (IsLink g v old) ls → (m : Arrays) (k : List ℕ) → reading new ls m k ≡ reading old ls m k
+pub reading_kept : (g : Grouping) (v : View) (old new : List (Node Leaf)) (ls : List Link) → ExtendsArena old new → All (IsLink g v old) ls → (m : Arrays) (k : List ℕ) → reading new ls m k ≡ reading old ls m k
 reading_kept g v old new [] more h m k = refl
 reading_kept g v old new (l ∷ ls) more h m k =
     let e = reads_kept old new l.diagram more (All-head (IsLink g v old) l ls h).diagram.below m k in
@@ -149,12 +149,12 @@ one_link any g v x ns l h = record {
   reads = λ m k met. reading-one ns l m k ∙ (told_is v (truth x) (λ m k. vars_of x) ns l.diagram h.told m k met).1;
 }
 
-pub pushed_links : (any : Bool) (g : Grouping) (v : View) (x y : Pred) (old new : List (Node Leaf)) (ls : List Link) (l : Link) → Grew old new → AreLinks any g v x old ls → IsTrueLink g v y new l
+pub pushed_links : (any : Bool) (g : Grouping) (v : View) (x y : Pred) (old new : List (Node Leaf)) (ls : List Link) (l : Link) → ExtendsArena old new → AreLinks any g v x old ls → IsTrueLink g v y new l
     → All (IsLink g v new) (ls ++ l ∷ [])
 pushed_links any g v x y old new ls l more h k =
     All-push (IsLink g v new) ls l (links_kept g v old new ls more h.links) (own_link g v (truth y) (λ m k. vars_of y) new l k)
 
-pub pushed_tell : (any : Bool) (g : Grouping) (v : View) (x y : Pred) (old new : List (Node Leaf)) (ls : List Link) (l : Link) → Grew old new → AreLinks any g v x old ls → IsTrueLink g v y new l
+pub pushed_tell : (any : Bool) (g : Grouping) (v : View) (x y : Pred) (old new : List (Node Leaf)) (ls : List Link) (l : Link) → ExtendsArena old new → AreLinks any g v x old ls → IsTrueLink g v y new l
     → Under v (λ m k. (holding any new (ls ++ l ∷ []) m k ≡ joined any (truth x m k) (truth y m k)) × (reading new (ls ++ l ∷ []) m k ≡ bit_or (vars_of x) (vars_of y)))
 pushed_tell any g v x y old new ls l more h t m k met =
     let e = told_is v (truth y) (λ m k. vars_of y) new l.diagram t.told m k met in
@@ -166,7 +166,7 @@ pushed_tell any g v x y old new ls l more h t m k met =
       reading-append new ls (l ∷ []) m k ∙ (λ i. bit_or (r i) (s i)),
     )
 
-pub pushed_all : (any : Bool) (g : Grouping) (v : View) (x y z : Pred) (old new : List (Node Leaf)) (ls items : List Link) (l : Link) → IsSplit any x y z → Grew old new → AreLinks any g v y old ls → IsTrueLink g v z new l
+pub pushed_all : (any : Bool) (g : Grouping) (v : View) (x y z : Pred) (old new : List (Node Leaf)) (ls items : List Link) (l : Link) → IsSplit any x y z → ExtendsArena old new → AreLinks any g v y old ls → IsTrueLink g v z new l
     → items ≡ ls ++ l ∷ [] → AreLinks any g v x new items
 pushed_all any g v x y z old new ls items l split more h t e =
     let n = length-append ls (l ∷ []) in
@@ -175,11 +175,11 @@ pushed_all any g v x y z old new ls items l split more h t e =
       some = omega (arith, n);
       links = pushed_links any g v y z old new ls l more h t;
       holds = λ m k met. (tell m k met).0 ∙ sym (split.truth m k);
-      reads = λ m k met. (tell m k met).1 ∙ sym split.vars;
+      reads = λ m k met. (tell m k met).1 ∙ sym split.arrays;
     })
 
 -- what all links of two predicates say, and what two links do
-pub chain_told : (any : Bool) (g : Grouping) (v : View) (x y : Pred) (old new last : List (Node Leaf)) (ls items : List Link) (l r : Link) → Grew old new → AreLinks any g v x old ls → IsTrueLink g v y new l → items ≡ ls ++ l ∷ []
+pub chain_told : (any : Bool) (g : Grouping) (v : View) (x y : Pred) (old new last : List (Node Leaf)) (ls items : List Link) (l r : Link) → ExtendsArena old new → AreLinks any g v x old ls → IsTrueLink g v y new l → items ≡ ls ++ l ∷ []
     → IsLinkOf g v (holding any new items) (reading new items) last r → IsLinkOf g v (λ m k. joined any (truth x m k) (truth y m k)) (λ m k. bit_or (vars_of x) (vars_of y)) last r
 chain_told any g v x y old new last ls items l r more h t e k =
     link_same g v (holding any new items) (λ m k. joined any (truth x m k) (truth y m k)) (reading new items) (λ m k. bit_or (vars_of x) (vars_of y)) last r
@@ -187,7 +187,7 @@ chain_told any g v x y old new last ls items l r more h t e k =
     let tell = pushed_tell any g v x y old new ls l more h t m k met in
     (ap (λ is. holding any new is m k) e ∙ tell.0, ap (λ is. reading new is m k) e ∙ tell.1)) k
 
-pub pair_told : (any : Bool) (g : Grouping) (v : View) (x y : Pred) (old new last : List (Node Leaf)) (a b r : Link) → Grew old new → IsTrueLink g v x old a → IsTrueLink g v y new b
+pub pair_told : (any : Bool) (g : Grouping) (v : View) (x y : Pred) (old new last : List (Node Leaf)) (a b r : Link) → ExtendsArena old new → IsTrueLink g v x old a → IsTrueLink g v y new b
     → IsLinkOf g v (λ m k. joined any (holds new a.diagram m k) (holds new b.diagram m k)) (reads_of_both new a.diagram b.diagram) last r
     → IsLinkOf g v (λ m k. joined any (truth x m k) (truth y m k)) (λ m k. bit_or (vars_of x) (vars_of y)) last r
 pair_told any g v x y old new last a b r more ha hb h =

@@ -19,15 +19,15 @@ use Rattle.snap_core.proofs.EvalLemmas.{listed-one}
 use Rattle.snap_core.proofs.PacketSets.{same_packets, contains-listed, union-one}
 use Rattle.snap_core.proofs.Small.{Good, stays_fine}
 use Rattle.snap_core.proofs.Truths.{both_or_neither}
-use Rattle.snap_ctx.specs.View.{View}
-use Rattle.snap_arena.specs.declared.node.Node.{Node}
-use Rattle.snap_arena.specs.Arena.{Grew}
-use Rattle.snap_fdd.specs.declared.leaf.Leaf.{Leaf}
-use Rattle.snap_fdd.proofs.Shared.{kept}
-use Rattle.snap_chain.specs.Late.{OnStores, outcome, outcome_at}
-use Rattle.snap_chain.specs.Sequence.{in_sequence}
-use Rattle.snap_chain.specs.Spread.{besides}
-use Rattle.snap_chain.proofs.Folding.{besides_front, all_together-is}
+use Rattle.snap_context.specs.View.{View}
+use Rattle.snap_diagrams.specs.declared.node.Node.{Node}
+use Rattle.snap_diagrams.specs.Arena.{ExtendsArena}
+use Rattle.snap_diagrams.specs.declared.leaf.Leaf.{Leaf}
+use Rattle.snap_diagrams.proofs.Shared.{kept}
+use Rattle.snap_compose.specs.Substituted.{OnStores, outcome, outcome_at}
+use Rattle.snap_compose.specs.Sequence.{in_sequence}
+use Rattle.snap_compose.specs.Spread.{besides}
+use Rattle.snap_compose.proofs.Folding.{besides_front, all_together-is}
 use Rattle.snap_build.specs.Parts.{DoesAs, EndsInSet, IsSet, Sends, sent}
 use Rattle.snap_build.proofs.Doing.{same_sequence}
 
@@ -173,7 +173,7 @@ then_part v pol p q old new b d free e puts does w m k met small =
     ∙ sym (e.evals m k)
 
 -- a part by its diagram, and then another that stood before it
-pub turn_does : (v : View) (p : Pol) (old mid new : List (Node Leaf)) (a b d : ℕ) → Grew old mid → b < length old → DoesAs v p mid a
+pub turn_does : (v : View) (p : Pol) (old mid new : List (Node Leaf)) (a b d : ℕ) → ExtendsArena old mid → b < length old → DoesAs v p mid a
     → OnStores v (λ m k. outcome new d m k ≡ in_sequence (outcome mid a m k) (outcome mid b))
     → OnStores v (λ m k. outcome new d m k ≡ in_sequence (eval p m k) (outcome old b))
 turn_does v p old mid new a b d g h does w m k met small =

@@ -4,13 +4,13 @@ use Rattle.snap_core.specs.declared.policy.Pred.{Pred, size-Pred}
 use Rattle.snap_core.specs.Arrays.{Arrays}
 use Rattle.snap_core.specs.Meaning.{truth, vars_of}
 use Rattle.snap_dep.specs.Ranks.{Grouping}
-use Rattle.snap_ctx.specs.View.{View}
-use Rattle.snap_arena.specs.declared.node.Node.{Node}
-use Rattle.snap_fdd.specs.declared.leaf.Leaf.{Leaf}
-use Rattle.snap_fdd.specs.Bounds.{Sizes}
-use Rattle.snap_fdd.specs.Contexts.{Under}
-use Rattle.snap_fdd.specs.Picks.{IsArgument}
-use Rattle.snap_join.specs.Predicates.{holds, reads}
+use Rattle.snap_context.specs.View.{View}
+use Rattle.snap_diagrams.specs.declared.node.Node.{Node}
+use Rattle.snap_diagrams.specs.declared.leaf.Leaf.{Leaf}
+use Rattle.snap_diagrams.specs.Bounds.{Sizes}
+use Rattle.snap_diagrams.specs.Contexts.{Under}
+use Rattle.snap_diagrams.specs.Picks.{IsWellFormedDiagram}
+use Rattle.snap_compose.specs.Predicates.{holds, reads}
 use Rattle.snap_build.specs.declared.chains.Link.{Link}
 use Rattle.snap_build.specs.Parts.{IsTold, PredIn}
 
@@ -31,8 +31,8 @@ reading ns (l ∷ ls) m k = bit_or (reads ns l.diagram m k) (reading ns ls m k)
 -- the link passes the packet where P is true, and reads R
 pub record IsLinkOf (g : Grouping) (v : View) (P : Arrays → List ℕ → Bool)
     (R : Arrays → List ℕ → ℕ) (ns : List (Node Leaf)) (l : Link) : Type 0 where
-  pub diagram : IsArgument g v ns l.diagram
-  pub last : IsArgument g v ns l.last
+  pub diagram : IsWellFormedDiagram g v ns l.diagram
+  pub last : IsWellFormedDiagram g v ns l.last
   pub told : IsTold v P R ns l.diagram
 
 -- the link is of a predicate
@@ -56,4 +56,4 @@ pub record IsSplit (any : Bool) (x l r : Pred) : Type 0 where
   pub right : size-Pred r < size-Pred x
   pub fits : (s : Sizes) → PredIn s x → PredIn s l × PredIn s r
   pub truth : (m : Arrays) (k : List ℕ) → truth x m k ≡ joined any (truth l m k) (truth r m k)
-  pub vars : vars_of x ≡ bit_or (vars_of l) (vars_of r)
+  pub arrays : vars_of x ≡ bit_or (vars_of l) (vars_of r)

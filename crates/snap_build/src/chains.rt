@@ -5,21 +5,21 @@
 //! of it: where tests lie between one another, what is known of the parts before may keep a diagram small.
 
 ghost use Rattle.std.specs.Prelude.{◌<◌, IfOk, length, All};
-ghost use Rattle.snap_arena.specs.Arena.{Grew};
-ghost use Rattle.snap_fdd.specs.Picks.{IsArgument};
-ghost use Rattle.snap_join.specs.Predicates.{IsPredicate, holds, reads_of_both};
+ghost use Rattle.snap_diagrams.specs.Arena.{ExtendsArena};
+ghost use Rattle.snap_diagrams.specs.Picks.{IsWellFormedDiagram};
+ghost use Rattle.snap_compose.specs.Predicates.{IsPredicate, holds, reads_of_both};
 ghost use Rattle.snap_build.specs.Chains.{joined, holding, reading, IsLink, IsLinkOf};
 ghost use Rattle.snap_build.specs.Parts.{IsTold};
 
-use snap_arena::node::Node;
-use snap_arena::nodes::Nodes;
+use snap_compose::joining::{both, either};
+use snap_context::context::Context;
 use snap_core::NoMemory;
-use snap_ctx::context::Context;
 use snap_dep::groups::Groups;
-use snap_fdd::leaf::Leaf;
-use snap_fdd::order::compare;
-use snap_fdd::pick::look;
-use snap_join::joining::{both, either};
+use snap_diagrams::leaf::Leaf;
+use snap_diagrams::node::Node;
+use snap_diagrams::nodes::Nodes;
+use snap_diagrams::order::compare;
+use snap_diagrams::pick::look;
 use std::cmp::Ordering;
 
 /// A part of a chain, or several that were joined.
@@ -33,8 +33,8 @@ pub(crate) struct Link {
 
 // Whether a node's test comes before another's. A leaf comes before each test, and nothing before a leaf.
 fn is_before(nodes: &Nodes<Leaf>, groups: &Groups, ctx: &Context, a: u64, b: u64) -> bool
-    requires a { IsArgument groups.now ctx.now nodes.now a }
-    requires b { IsArgument groups.now ctx.now nodes.now b }
+    requires a { IsWellFormedDiagram groups.now ctx.now nodes.now a }
+    requires b { IsWellFormedDiagram groups.now ctx.now nodes.now b }
 {
     match look(nodes, b) {
         Node::Leaf(_) => false,
@@ -55,9 +55,9 @@ fn is_before(nodes: &Nodes<Leaf>, groups: &Groups, ctx: &Context, a: u64, b: u64
 
 // The one of two nodes with the later test.
 fn later(nodes: &Nodes<Leaf>, groups: &Groups, ctx: &Context, a: u64, b: u64) -> u64
-    requires a { IsArgument groups.now ctx.now nodes.now a }
-    requires b { IsArgument groups.now ctx.now nodes.now b }
-    ensures { IsArgument groups.now ctx.now nodes.now result }
+    requires a { IsWellFormedDiagram groups.now ctx.now nodes.now a }
+    requires b { IsWellFormedDiagram groups.now ctx.now nodes.now b }
+    ensures { IsWellFormedDiagram groups.now ctx.now nodes.now result }
 {
     if is_before(nodes, groups, ctx, a, b) {
         b
@@ -75,12 +75,12 @@ fn two_joined(
     a: u64,
     b: u64,
 ) -> Result<u64, NoMemory>
-    requires a { IsArgument groups.now ctx.now nodes.old a }
-    requires b { IsArgument groups.now ctx.now nodes.old b }
+    requires a { IsWellFormedDiagram groups.now ctx.now nodes.old a }
+    requires b { IsWellFormedDiagram groups.now ctx.now nodes.old b }
     requires first { IsPredicate nodes.old a }
     requires second { IsPredicate nodes.old b }
-    ensures grew { Grew nodes.old nodes.new }
-    ensures diagram { IfOk result (IsArgument groups.now ctx.now nodes.new) }
+    ensures extends_arena { ExtendsArena nodes.old nodes.new }
+    ensures diagram { IfOk result (IsWellFormedDiagram groups.now ctx.now nodes.new) }
     ensures told { IfOk result (IsTold ctx.now (λ m k. joined any (holds nodes.old a m k) (holds nodes.old b m k)) (reads_of_both nodes.old a b) nodes.new) }
 {
     if any {
@@ -101,7 +101,7 @@ pub(crate) fn join_two(
 ) -> Result<Link, NoMemory>
     requires a { IsLink groups.now ctx.now nodes.old a }
     requires b { IsLink groups.now ctx.now nodes.old b }
-    ensures grew { Grew nodes.old nodes.new }
+    ensures extends_arena { ExtendsArena nodes.old nodes.new }
     ensures link { IfOk result (IsLinkOf groups.now ctx.now (λ m k. joined any (holds nodes.old a.diagram m k) (holds nodes.old b.diagram m k)) (reads_of_both nodes.old a.diagram b.diagram) nodes.new) }
 {
     let last = later(nodes, groups, ctx, a.last, b.last);
@@ -152,7 +152,7 @@ pub(crate) fn join_all(
 ) -> Result<Link, NoMemory>
     requires some { 0 < length links.now }
     requires links { All (IsLink groups.now ctx.now nodes.old) links.now }
-    ensures grew { Grew nodes.old nodes.new }
+    ensures extends_arena { ExtendsArena nodes.old nodes.new }
     ensures link { IfOk result (IsLinkOf groups.now ctx.now (holding any nodes.old links.now) (reading nodes.old links.now) nodes.new) }
 {
     if links.len() == 1 {

@@ -2,25 +2,25 @@
 
 ghost use Rattle.std.specs.Prelude.{◌≡◌, ◌++◌, ◌<◌, IfOk, IsTrue, OnOk};
 ghost use Rattle.snap_core.specs.Laws.{PutsSmall, write_vars};
-ghost use Rattle.snap_arena.specs.Arena.{Grew};
-ghost use Rattle.snap_fdd.specs.Contexts.{Met};
-ghost use Rattle.snap_fdd.specs.Diagrams.{diagram};
-ghost use Rattle.snap_fdd.specs.Picks.{IsArgument, sizes};
-ghost use Rattle.snap_fdd.specs.Pruned.{IsLive};
-ghost use Rattle.snap_chain.specs.Additions.{AreSame};
+ghost use Rattle.snap_diagrams.specs.Arena.{ExtendsArena};
+ghost use Rattle.snap_diagrams.specs.Contexts.{Met};
+ghost use Rattle.snap_diagrams.specs.Diagrams.{diagram};
+ghost use Rattle.snap_diagrams.specs.Picks.{IsWellFormedDiagram, sizes};
+ghost use Rattle.snap_diagrams.specs.Pruned.{IsLive};
+ghost use Rattle.snap_compose.specs.Additions.{AreSame};
 ghost use Rattle.snap_build.specs.Parts.{DoesAs, PolIn, UpdatesAlone, update_leaf, updates_of};
 
 use crate::predicates::bit;
-use snap_arena::nodes::Nodes;
-use snap_chain::summing::push_update;
+use snap_compose::summing::push_update;
+use snap_context::context::Context;
 use snap_core::NoMemory;
 use snap_core::bits::op_is_small;
 use snap_core::lists::{Out, Outs, Updates};
 use snap_core::policy::{Pol, Update};
-use snap_ctx::context::Context;
 use snap_dep::groups::Groups;
-use snap_fdd::leaf::{Go, Leaf};
-use snap_fdd::only::only;
+use snap_diagrams::leaf::{Go, Leaf};
+use snap_diagrams::nodes::Nodes;
+use snap_diagrams::only::only;
 use std::alloc::Global;
 
 /// Whether a policy is of updates alone, one after another. The last part is looked at first: mostly it tells.
@@ -49,7 +49,7 @@ fn push_all(
 {
     match pol {
         Pol::Change(update) => {
-            let _vars = groups.count();
+            let _arrays = groups.count();
             op_is_small(update.op);
             push_update(updates, update)?;
             Ok(bit(update.var))
@@ -85,8 +85,8 @@ pub(crate) fn in_one(
 ) -> Result<u64, NoMemory>
     requires alone { UpdatesAlone pol.now }
     requires fits { PolIn (sizes groups.now ctx.now) pol.now }
-    ensures grew { Grew nodes.old nodes.new }
-    ensures diagram { IfOk result (IsArgument groups.now ctx.now nodes.new) }
+    ensures extends_arena { ExtendsArena nodes.old nodes.new }
+    ensures diagram { IfOk result (IsWellFormedDiagram groups.now ctx.now nodes.new) }
     ensures small { IfOk result (λ d. PutsSmall pol.now) }
     ensures does { IfOk result (DoesAs ctx.now pol.now nodes.new) }
     ensures live { IfOk result (λ d. IsLive (Met ctx.now) (diagram nodes.new d)) }

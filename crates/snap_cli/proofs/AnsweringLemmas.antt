@@ -10,25 +10,25 @@ use Rattle.snap_core.specs.declared.program.Field.{Field}
 use Rattle.snap_core.specs.Ports.{port_in}
 use Rattle.snap_rows.proofs.Ports.{port_is_found}
 use Rattle.snap_tables.specs.Text.{text as tables_text}
-use Rattle.snap_trace.specs.PacketLines.{said_by}
+use Rattle.snap_report.specs.PacketLines.{said_by}
 use Rattle.snap_runs.specs.Plain.{ArePlainBlocks, EndsAs}
 use Rattle.snap_runs.specs.Reports.{array_names}
-use Rattle.snap_move.specs.Files.{EndsAsRead}
-use Rattle.snap_move.specs.Shapes.{HaveOneShape}
+use Rattle.snap_runs.specs.ChangedFiles.{EndsAsRead}
+use Rattle.snap_runs.specs.Shapes.{HaveOneShape}
 use Rattle.snap_order.specs.Runs as turns
 use Rattle.snap_cli.specs.Answering.{AnswersZero, CanFollow, ChangesAnswer, CompileCall, NamePorts, NoDeviceFailed, OrderCanBeDone, TracesAnswer, TurnsCanBeDone, Wrote}
 use Rattle.snap_cli.specs.Causes.{HasCauses}
 use Rattle.snap_cli.specs.Changes.{ChangesTo, LaterOf, RefusesLater, before}
 use Rattle.snap_cli.specs.Compile.{version_of}
 use Rattle.snap_cli.specs.Upgrades.{file_in_force}
-use Rattle.snap_cli.specs.InTurn.{TurnsTo}
+use Rattle.snap_cli.specs.InOrder.{TurnsTo}
 use Rattle.snap_cli.specs.Trace.{EndsTrace, NetworkRunsTo}
 use Rattle.snap_cli.proofs.ChangesOnce.{AreRead, changes_read, said_once}
 use Rattle.snap_cli.proofs.ChangesTraced.{read_in_force}
 use Rattle.snap_cli.proofs.DueStatus.{due-status}
 use Rattle.snap_runs.proofs.OneSchedule.{ended_or_refused}
-use Rattle.snap_order.proofs.OneSchedule.{ended_or_refused as ended_or_refused_in_turn}
-use Rattle.snap_cli.proofs.Shared.{All, All-head, All-tail, AnswersExactly, Change, ChangedTables, changes, ChangesOf, Command, CompilesExactly, ended, Ending, Ends, EndsBySchedule, file_of, Files, HasScheduleReport, in_force, in_turn, IsFailure, IsInForm, IsPlainReport, IsRead, IsReadBack, IsRunEnding, Later, lines_of, option_map, Order, plain, ports_of, Refusal, refused, RefusesScheduleLine, rounds, RoundsTo, RunEnding, schedule, slice_get, slice_index, Spelled, spelled, spelled_for, spelled_under, SpellsOneProgram, status_of, Stop, Tables, TablesOf, trace, Write}
+use Rattle.snap_order.proofs.OneSchedule.{ended_or_refused as ended_or_refused_in_order}
+use Rattle.snap_cli.proofs.Shared.{All, All-head, All-tail, AnswersExactly, Change, ChangedTables, changes, ChangesOf, Command, CompilesExactly, ended, Ending, Ends, EndsBySchedule, file_of, Files, HasScheduleReport, in_force, in_order, IsFailure, IsWellFormed, IsPlainReport, IsRead, IsReadBack, IsRunEnding, Later, lines_of, option_map, Order, plain, ports_of, Refusal, refused, RefusesScheduleLine, rounds, RoundsTo, RunEnding, schedule, slice_get, slice_index, Spelled, spelled, spelled_for, spelled_under, SpellsOneProgram, status_of, Stop, Tables, TablesOf, trace, Write}
 use Rattle.snap_cli.proofs.OneTables.{answered, told}
 use Rattle.snap_cli.proofs.OneTopology.{topology_once}
 use Rattle.snap_cli.proofs.SameCore.{same_fields, same_names}
@@ -68,10 +68,10 @@ only_read n file back is short r (inr spells) =
 -- the file is read as these tables, which are those of what the call was given
 record IsFileOf (c : CompileCall) (file : List ℕ) (n : Tables) : Type 0 where
   only : (r : Result Tables Refusal) → TablesOf file r → r ≡ Ok n
-  form : IsInForm n
+  form : IsWellFormed n
   version : n.version ≡ version_of c.on_demand
   fields : n.fields ≡ c.p.fields
-  names : array_names n ≡ c.p.vars
+  names : array_names n ≡ c.p.arrays
   ports : n.ports ≡ c.t.ports
 
 module _ (spells : SpellsOneProgram) (exactly : AnswersExactly) (compiles : CompilesExactly) where
@@ -144,10 +144,10 @@ module _ (n : Tables) (file : List ℕ) (whole : (spelled_for n file).stop ≡ e
   rounds_well hops (inr h) = absurd (let e : refused h.1.0 ≡ ended = sym h.1.1 ∙ whole in cc)
 
 -- tables without `--on-demand` are of version 2
-in_turn_two : (on_demand : Bool) (version : ℕ) → version ≡ version_of on_demand → on_demand ≡ false → version ≡ 1 → ⊥
-in_turn_two on_demand version is without one = let two : version ≡ 2 = is ∙ ap version_of without in omega (arith, one, two)
+in_order_two : (on_demand : Bool) (version : ℕ) → version ≡ version_of on_demand → on_demand ≡ false → version ≡ 1 → ⊥
+in_order_two on_demand version is without one = let two : version ≡ 2 = is ∙ ap version_of without in omega (arith, one, two)
 
-module _ (later : Files) (tables packets : List ℕ) (on_demand hops : Bool) (n : Tables) (form : IsInForm n) (version : n.version ≡ version_of on_demand)
+module _ (later : Files) (tables packets : List ℕ) (on_demand hops : Bool) (n : Tables) (form : IsWellFormed n) (version : n.version ≡ version_of on_demand)
     (is : TablesOf (file_of later tables) (Ok n)) (whole : (spelled_for n (file_of later packets)).stop ≡ ended) (ending : Ending) (text : List ℕ) where
   abbrev file : List ℕ
   file = file_of later packets
@@ -160,7 +160,7 @@ module _ (later : Files) (tables packets : List ℕ) (on_demand hops : Bool) (n 
   turns_well (Some lines) can h =
       let done = can.lead n is in
       schedule_well n file whole ending text (file_of later lines) (turns.HasScheduleReport n hops file (file_of later lines)) (turns.RefusesScheduleLine n file (file_of later lines)) can.short
-      (λ line stuck. ended_or_refused_in_turn n form ks (lines_of (file_of later lines)) done.0 done.1 done.2 done.3 line stuck.1) h
+      (λ line stuck. ended_or_refused_in_order n form ks (lines_of (file_of later lines)) done.0 done.1 done.2 done.3 line stuck.1) h
 
   ran_well : (order : Order) → OrderCanBeDone on_demand later tables packets order → NetworkRunsTo later n packets hops order ending text → ending ≡ Ok tt
   ran_well plain can h = ends_well (ArePlainBlocks n hops) (IsPlainReport n hops) ks (spelled_for n file).stop h.0 ending text whole h.1 h.2
@@ -169,9 +169,9 @@ module _ (later : Files) (tables packets : List ℕ) (on_demand hops : Bool) (n 
       schedule_well n file whole ending text (file_of later lines) (HasScheduleReport n hops file (file_of later lines)) (RefusesScheduleLine n file (file_of later lines)) can.short
       (λ line stuck. ended_or_refused n form ks (lines_of (file_of later lines)) done.0 done.1 done.2 done.3 line stuck.1) h
   ran_well (changes lines) can h = absurd can
-  ran_well (in_turn lines) can (inl h) = absurd (in_turn_two on_demand n.version version can.0 h.0)
-  ran_well (in_turn lines) can (inr h) = turns_well lines can.1 h.1
-  ran_well (rounds workers) can (inl h) = absurd (in_turn_two on_demand n.version version can h.0)
+  ran_well (in_order lines) can (inl h) = absurd (in_order_two on_demand n.version version can.0 h.0)
+  ran_well (in_order lines) can (inr h) = turns_well lines can.1 h.1
+  ran_well (rounds workers) can (inl h) = absurd (in_order_two on_demand n.version version can h.0)
   ran_well (rounds workers) can (inr h) = rounds_well n file whole ending text hops h.1
 
 changed_well : (first : Tables) (later : List Later) (hops : Bool) (ks : List (List ℕ)) (stop : Stop) (run : RunEnding) (ending : Ending) (text : List ℕ) → stop ≡ ended → EndsAsRead first later hops ks stop run text → IsRunEnding run ending → ending ≡ Ok tt
@@ -201,7 +201,7 @@ module _ (spells : SpellsOneProgram) (exactly : AnswersExactly) (compiles : Comp
         let same : t ≡ n.0 = (let e = n.1.only (Ok t) read in cc) in (
           record {
             fields = ap (λ (x : Tables). x.fields) same ∙ n.1.fields ∙ can.alike.fields ∙ sym of.fields;
-            names = ap (λ (x : Tables). array_names x) same ∙ n.1.names ∙ can.alike.vars ∙ sym of.names;
+            names = ap (λ (x : Tables). array_names x) same ∙ n.1.names ∙ can.alike.arrays ∙ sym of.names;
           },
           ap (λ (x : Tables). x.ports) same ∙ n.1.ports,
         )

@@ -5,12 +5,12 @@ use Rattle.std.proofs.lemmas.List.Elements.{All-more}
 use Rattle.std.proofs.lemmas.Option.{slice_get-get_or}
 use Rattle.std.specs.Prelude.{Vec}
 use Rattle.std.specs.declared.alloc.Global.{Global}
-use Rattle.snap_trace.specs.declared.fault.TraceFault.TheVariants as run
-use Rattle.snap_move.specs.declared.change.ChangesFault.{ChangesFault}
-use Rattle.snap_move.specs.declared.change.ChangesFault.TheVariants as fault
-use Rattle.snap_move.specs.Changing.{IsAhead, IsRising}
-use Rattle.snap_move.specs.Files.{IsChangedTrace, WritesChanged}
-use Rattle.snap_move.specs.Lines.{AreRising, IsBehind, changes_of}
+use Rattle.snap_report.specs.declared.fault.TraceFault.TheVariants as run
+use Rattle.snap_runs.specs.declared.change.ChangesFault.{ChangesFault}
+use Rattle.snap_runs.specs.declared.change.ChangesFault.TheVariants as fault
+use Rattle.snap_runs.specs.Changing.{IsAhead, IsRising}
+use Rattle.snap_runs.specs.ChangedFiles.{IsChangedTrace, WritesChanged}
+use Rattle.snap_runs.specs.ChangeLines.{AreRising, IsBehind, changes_of}
 use Rattle.snap_cli.specs.Changes.{HasLater, IsLater, IsReachedByChanges, IsReachedChange, LaterOf, RefusesLater, before, refusal_of_changes, said_changes}
 use Rattle.snap_cli.specs.ChangesSteps.{GivesChanges, LoadsChanges, LoadsLater, LoadsLaters, MeetsChanges, ReadsChanges, afters, afters_of}
 use Rattle.snap_cli.specs.Texts.{GivesText, RefusesBy}

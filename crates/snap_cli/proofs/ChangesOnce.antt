@@ -1,11 +1,11 @@
 -- A run with the changes of a file ends in one way, with one text.
 use Rattle.std.proofs.Common.{◌≡◌, ℕ, Bool, List, [], ◌∷◌, Result, Ok, Err, refl, sym, ◌∙◌, ap, subst, inl, inr}
 use Rattle.snap_tables.specs.Exact.{ReadsOneWay}
-use Rattle.snap_move.specs.Files.{EndsAsRead, IsChangedTrace}
-use Rattle.snap_move.specs.Laws.{AreInForm, ChangedBlocksAreOne, ChangedReportsAreOne}
-use Rattle.snap_move.specs.Shapes.{HaveOneShape}
+use Rattle.snap_runs.specs.ChangedFiles.{EndsAsRead, IsChangedTrace}
+use Rattle.snap_refinement.specs.ChangeLaws.{AreWellFormed, ChangedBlocksAreOne, ChangedReportsAreOne}
+use Rattle.snap_runs.specs.Shapes.{HaveOneShape}
 use Rattle.snap_cli.specs.Changes.{ChangesTo, IsChangesText, IsLater, LaterOf, RefusesLater, before}
-use Rattle.snap_cli.proofs.Shared.{All, All-cons, All-nil, Change, ChangedTables, ChangesOf, ended, Ending, file_of, Files, IsInForm, IsRunEnding, Later, Refusal, refused, RunEnding, spelled_under, Stop, Tables, TablesOf}
+use Rattle.snap_cli.proofs.Shared.{All, All-cons, All-nil, Change, ChangedTables, ChangesOf, ended, Ending, file_of, Files, IsWellFormed, IsRunEnding, Later, Refusal, refused, RunEnding, spelled_under, Stop, Tables, TablesOf}
 use Rattle.snap_cli.proofs.ObsOnce.{AreOne, run_once}
 use Rattle.snap_cli.proofs.OneTables.{one_tables, spelled_form}
 use Rattle.snap_cli.proofs.Pipeline.{Agree, Alike, alike, cases_once, next_once, within_once}
@@ -63,12 +63,12 @@ module _ (files : Files) (first : Tables) where
   changes_read lines ls (inl h) = absurd (let e = h.2 in cc)
   changes_read lines ls (inr h) = (h.0, h.1, all_read h.0 (Ok ls) h.2 ls refl)
 
-  read_forms : {cs : List Change} {ls : List Later} → AreRead cs ls → All (λ (x : Later). IsInForm x.tables) ls
-  read_forms read_none = All-nil (λ (x : Later). IsInForm x.tables)
-  read_forms (read_one {c = c} {l = l} {ls = ls} after is shape rest) = All-cons (λ (x : Later). IsInForm x.tables) l ls (spelled_form (file_of files c.name) l.tables is) (read_forms rest)
+  read_forms : {cs : List Change} {ls : List Later} → AreRead cs ls → All (λ (x : Later). IsWellFormed x.tables) ls
+  read_forms read_none = All-nil (λ (x : Later). IsWellFormed x.tables)
+  read_forms (read_one {c = c} {l = l} {ls = ls} after is shape rest) = All-cons (λ (x : Later). IsWellFormed x.tables) l ls (spelled_form (file_of files c.name) l.tables is) (read_forms rest)
 
-module _ (one : ReadsOneWay) (reports : ChangedReportsAreOne) (blocks : ChangedBlocksAreOne) (files : Files) (t : Tables) (form : IsInForm t) (packets : List ℕ) (hops : Bool) (lines : List ℕ) where
-  read_once : (later : List Later) → AreInForm t later → (ks : List (List ℕ)) (stop : Stop) → AreOne (EndsAsRead t later hops ks stop)
+module _ (one : ReadsOneWay) (reports : ChangedReportsAreOne) (blocks : ChangedBlocksAreOne) (files : Files) (t : Tables) (form : IsWellFormed t) (packets : List ℕ) (hops : Bool) (lines : List ℕ) where
+  read_once : (later : List Later) → AreWellFormed t later → (ks : List (List ℕ)) (stop : Stop) → AreOne (EndsAsRead t later hops ks stop)
   read_once later all ks ended a b e f h k = (h.0 ∙ sym k.0, reports t later all hops ks a b h.1 k.1)
   read_once later all ks (refused fault) a b e f h k = (h.0 ∙ sym k.0, blocks t later all hops ks a b h.1 k.1)
 

@@ -1,12 +1,12 @@
 -- What is compiled for programs of one shape, and then traced with changes of tables, is what one big switch does whose program changes.
 use Rattle.std.proofs.Common.{◌≡◌, ℕ, Bool, true, false, List, [], ◌∷◌, Some, Result, Ok, Err, refl, sym, ◌∙◌, ap, subst, inl, inr}
 use Rattle.std.specs.Prelude.{nat_le, if◌then◌else◌}
-use Rattle.snap_move.specs.declared.change.ChangesFault.{ChangesFault}
-use Rattle.snap_move.specs.Changing.{HaveShapeOf, IsChangedReport, IsRising}
-use Rattle.snap_move.specs.Files.{EndsAsRead}
-use Rattle.snap_move.specs.Laws.{AreFaithfulTo, IsFaithfulTo, SaidChangesRise, TurnsReportWithoutHops, UpgradedRunsAreShort, UpgradedRunsReportOneSwitch}
-use Rattle.snap_move.specs.Lines.{changes_of}
-use Rattle.snap_move.specs.Shapes.{HaveOneShape}
+use Rattle.snap_runs.specs.declared.change.ChangesFault.{ChangesFault}
+use Rattle.snap_runs.specs.Changing.{HaveShapeOf, IsChangedReport, IsRising}
+use Rattle.snap_runs.specs.ChangedFiles.{EndsAsRead}
+use Rattle.snap_refinement.specs.ChangeLaws.{AreFaithfulTo, IsFaithfulTo, SaidChangesRise, TurnsReportWithoutHops, UpgradedRunsAreShort, UpgradedRunsReportOneSwitch}
+use Rattle.snap_runs.specs.ChangeLines.{changes_of}
+use Rattle.snap_runs.specs.Shapes.{HaveOneShape}
 use Rattle.snap_cli.specs.Changes.{ChangesTo, said_changes}
 use Rattle.snap_cli.specs.ChangesSteps.{afters, afters_of}
 use Rattle.snap_cli.specs.Laws.{ChangesExactly}
@@ -15,8 +15,8 @@ use Rattle.snap_cli.proofs.ChangesLemmas.{rising-changes}
 use Rattle.snap_cli.proofs.ChangesOnce.{AreRead, changes_read, read_none, read_one}
 use Rattle.snap_cli.proofs.SpelledUnder.{spelled_fit, under_whole}
 use Rattle.snap_cli.proofs.Traced.{compiled, no_failure, read_tables, refused_apart, run_apart, same_tables}
-use Rattle.snap_move.proofs.Settling.{shape-same}
-use Rattle.snap_move.proofs.Report.{force-shape}
+use Rattle.snap_runs.proofs.ChangesSettling.{shape-same}
+use Rattle.snap_refinement.proofs.Report.{force-shape}
 use Rattle.snap_cli.proofs.Shared.{All, All-cons, All-head, All-nil, All-tail, AnswersExactly, Change, ChangedTables, changes, ChangesOf, CompilesExactly, count, Did, ended, Ending, Faithful, file_of, Files, in_force, IsPacket, IsRunEnding, Later, Program, ProgramOf, Refusal, refused, RunEnding, Spelled, spelled, spelled_under, SpelledPacketsFit, status_of, Stop, Tables, TablesOf, trace}
 
 -- ---- the tables of the changes

@@ -21,7 +21,7 @@ same_race p q same m k race = record {
   of = record {
     packet = subst (λ fields. IsPacket (count fields) k) (same_fields p q same) race.of.packet;
     store = race.of.store;
-    only = subst (λ vars. (at : Place) → length vars ≤ at.var → m at ≡ 0) (same_names p q same) race.of.only;
+    only = subst (λ arrays. (at : Place) → length arrays ≤ at.var → m at ≡ 0) (same_names p q same) race.of.only;
   };
   none = sym (same_eval p q same m k) ∙ race.none;
 }

@@ -1,6 +1,6 @@
 -- What `compile` did, from what its steps did.
 use Rattle.std.proofs.Common.{◌⊎◌, ◌≤◌, ℕ, Bool, List, [], Option, Result, Ok, Err, length, refl, ap, inl, inr}
-use Rattle.snap_place.specs.Answer.{IsAnswer}
+use Rattle.snap_placement.specs.Answer.{IsAnswer}
 use Rattle.snap_tables.specs.Text.{text as tables_text}
 use Rattle.snap_cli.specs.declared.inputs.Inputs.{Inputs}
 use Rattle.snap_cli.specs.Compile.{AreSpelled, AreTables, HasNoTables, HasNoTablesFor, IsCompiled}

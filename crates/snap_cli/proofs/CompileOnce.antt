@@ -2,7 +2,7 @@
 use Rattle.std.proofs.Common.{◌≡◌, ◌⊎◌, ℕ, Bool, List, [], ◌∷◌, Option, Result, Ok, Err, refl, sym, ◌∙◌, subst, inl, inr}
 use Rattle.snap_tables.specs.Text.{text as tables_text}
 use Rattle.snap_build.specs.Whole.{IsRaceOf}
-use Rattle.snap_gen.specs.Faithful.{IsDefined}
+use Rattle.snap_faithful.specs.Faithful.{IsDefined}
 use Rattle.snap_cli.specs.Check.{Races}
 use Rattle.snap_cli.specs.Compile.{AreMade, AreSpelled, EndsCompile, HasNoTables, IsCompileText, IsCompiled}
 use Rattle.snap_cli.specs.PlacementOf.{PlacementOf}

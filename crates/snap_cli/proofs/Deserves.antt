@@ -2,7 +2,7 @@
 use Rattle.std.proofs.Common.{ℕ, Ok, sym, ◌∙◌, inl, inr}
 use Rattle.snap_dep.specs.Dependencies.{TiedIsEquivalence, UsesBelow}
 use Rattle.snap_dep.specs.Ranks.{HasOneRank}
-use Rattle.snap_trace.specs.OneSwitch.{IsReport}
+use Rattle.snap_report.specs.OneSwitch.{IsReport}
 use Rattle.snap_words.specs.Commands.{check, demo, deps, equal, obs, routes, place}
 use Rattle.snap_cli.specs.Compile.{EndsCompile}
 use Rattle.snap_cli.specs.Deps.{HasOneText}

@@ -22,7 +22,7 @@ module _ (files : Files) (l r : List ℕ) where
       meets-equal (Ok u) m = (inr (p, q, left, right, (m.0, m.1)), (codes "equal\n", inr (p, q, left, right, inl (m.0, m.1, refl)), m.2))
       meets-equal (Err Write) m = inr (codes "equal\n", inr (p, q, left, right, inl (m.0, m.1, refl)), m.2)
       meets-equal (Err NoMemory) m = ([], refl, (0, m))
-      meets-equal (Err Declarations) m = (inr (p, q, left, right, m.0), ([], inr (p, q, left, right, inr ((λ calm same. m.0 calm.declared), refl)), m.1))
-      meets-equal (Err (Race text)) m = (inr (p, q, left, right, m.0), ([], inr (p, q, left, right, inr ((λ calm same. race_never p q p q refl refl text.items m.0.1 calm), refl)), m.1))
-      meets-equal (Err (Differ text)) m = (inr (p, q, left, right, m.0), ([], inr (p, q, left, right, inr ((λ calm same. differ_same p q p q refl refl m.0.1.0 m.0.1.1 m.0.1.2 same), refl)), m.1))
+      meets-equal (Err Declarations) m = (inr (p, q, left, right, m.0), ([], inr (p, q, left, right, inr ((λ race_free same. m.0 race_free.declared), refl)), m.1))
+      meets-equal (Err (Race text)) m = (inr (p, q, left, right, m.0), ([], inr (p, q, left, right, inr ((λ race_free same. race_never p q p q refl refl text.items m.0.1 race_free), refl)), m.1))
+      meets-equal (Err (Differ text)) m = (inr (p, q, left, right, m.0), ([], inr (p, q, left, right, inr ((λ race_free same. differ_same p q p q refl refl m.0.1.0 m.0.1.1 m.0.1.2 same), refl)), m.1))
       meets-equal (Err e) m = absurd m.0

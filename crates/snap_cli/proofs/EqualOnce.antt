@@ -15,7 +15,7 @@ module _ (p q r s : Program) (left : core_program p ≡ core_program r) (right :
   alike : AreDeclaredAlike p q → AreDeclaredAlike r s
   alike h = record {
     fields = sym (same_fields p r left) ∙ h.fields ∙ same_fields q s right;
-    vars = sym (same_names p r left) ∙ h.vars ∙ same_names q s right;
+    arrays = sym (same_names p r left) ∙ h.arrays ∙ same_names q s right;
   }
 
   comparable : AreComparable p q → AreComparable r s
@@ -34,8 +34,8 @@ module _ (p q r s : Program) (left : core_program p ≡ core_program r) (right :
   differ_same m k apart same = apart.differ (outcome_back m k (same m k apart.of.store (subst (λ fields. IsPacket (count fields) k) (same_fields p r left) apart.of.packet)))
 
   pub race_never : (text : List ℕ) → TellsOneRace p q text → AreComparable r s → ⊥
-  race_never text (inl race) calm = never_both r p (sym left) calm.left race.0 race.1 race.2
-  race_never text (inr race) calm = never_both s q (sym right) calm.right race.1.0 race.1.1 race.1.2
+  race_never text (inl race) race_free = never_both r p (sym left) race_free.left race.0 race.1 race.2
+  race_never text (inr race) race_free = never_both s q (sym right) race_free.right race.1.0 race.1.1 race.1.2
 
   differs : Differs p q → Differs r s
   differs h = (
@@ -45,7 +45,7 @@ module _ (p q r s : Program) (left : core_program p ≡ core_program r) (right :
       of = record {
         packet = subst (λ fields. IsPacket (count fields) h.1) (same_fields p r left) h.2.of.packet;
         store = h.2.of.store;
-        only = subst (λ vars. (at : Place) → length vars ≤ at.var → h.0 at ≡ 0) (same_names p r left) h.2.of.only;
+        only = subst (λ arrays. (at : Place) → length arrays ≤ at.var → h.0 at ≡ 0) (same_names p r left) h.2.of.only;
       };
       differ = λ same. h.2.differ (outcome_back h.0 h.1 same);
     },
@@ -79,11 +79,11 @@ module _ (p q r s : Program) (left : core_program p ≡ core_program r) (right :
 
   -- the status of comparable programs that were read
   pub compared_status : AreComparable r s → (e : Ending) → EndsCompared p q e → ((status_of e ≡ 0) × MeanSame r s) ⊎ ((status_of e ≡ 18) × Differs r s)
-  compared_status calm (Ok u) h = inl (refl, mean_same p q r s left right h.1)
-  compared_status calm (Err Declarations) h = absurd (h (alike r s p q (sym left) (sym right) calm.declared))
-  compared_status calm (Err (Race text)) h = absurd (race_never p q r s left right text.items h.1 calm)
-  compared_status calm (Err (Differ text)) h = inr (refl, differs p q r s left right (h.1.0, h.1.1, h.1.2))
-  compared_status calm (Err e) h = absurd h
+  compared_status race_free (Ok u) h = inl (refl, mean_same p q r s left right h.1)
+  compared_status race_free (Err Declarations) h = absurd (h (alike r s p q (sym left) (sym right) race_free.declared))
+  compared_status race_free (Err (Race text)) h = absurd (race_never p q r s left right text.items h.1 race_free)
+  compared_status race_free (Err (Differ text)) h = inr (refl, differs p q r s left right (h.1.0, h.1.1, h.1.2))
+  compared_status race_free (Err e) h = absurd h
 
 -- ---- the command
 abbrev Fails : Refusal → Ending → Type 0
@@ -120,7 +120,7 @@ module _ (spells : SpellsOneProgram) (files : Files) (left right : List ℕ) whe
   -- the status of two programs that were read
   pub equal_status : (p q : Program) → ProgramOf (file_of files left) (Ok p) → ProgramOf (file_of files right) (Ok q) → AreComparable p q → (e : Ending) → EndsEqual files left right e
       → ((status_of e ≡ 0) × MeanSame p q) ⊎ ((status_of e ≡ 18) × Differs p q)
-  equal_status p q l r calm e h =
+  equal_status p q l r race_free e h =
       let (other, first, is, rest) = past (one_program spells (file_of files left)) Fails (λ p. After (ProgramOf (file_of files right)) Fails (EndsCompared p)) p l e (reads files left right Fails EndsCompared e h) in
       let (another, second, was, compared) = past (one_program spells (file_of files right)) Fails (EndsCompared other) q r e rest in
-      compared_status other another p q (sym first) (sym second) calm e compared
+      compared_status other another p q (sym first) (sym second) race_free e compared

@@ -2,10 +2,10 @@
 use Rattle.std.proofs.Common.{◌≡◌, ℕ, List, length, Err, sym, subst, inl, inr}
 use Rattle.snap_core.specs.Meaning.{eval}
 use Rattle.snap_core.specs.Inputs.{IsStore}
-use Rattle.snap_arena.specs.declared.node.Node.{Node}
-use Rattle.snap_fdd.specs.declared.leaf.Leaf.{Leaf}
-use Rattle.snap_fdd.specs.Diagrams.{diagram}
-use Rattle.snap_chain.specs.Late.{outcome}
+use Rattle.snap_diagrams.specs.declared.node.Node.{Node}
+use Rattle.snap_diagrams.specs.declared.leaf.Leaf.{Leaf}
+use Rattle.snap_diagrams.specs.Diagrams.{diagram}
+use Rattle.snap_compose.specs.Substituted.{outcome}
 use Rattle.snap_equal.proofs.Comparable.{comparable}
 use Rattle.snap_equal.specs.Same.{CanBeCompared, DoApart, DoSame, MeanSame, SameOutcome, TellApart}
 use Rattle.snap_cli.specs.declared.refusal.Refusal.TheVariants.{Differ}
@@ -23,13 +23,13 @@ first_told p q alike (Race text) h = (alike, inl h)
 first_told p q alike e h = subst (λ x. Compares p q (Err x)) (sym h) tt
 
 pub difference_told : (p q : Program) → AreComparable p q → (e : Refusal) → IsDifferenceTold p q e → Compares p q (Err e)
-difference_told p q calm (Differ text) h = (calm, h)
-difference_told p q calm e h = subst (λ x. Compares p q (Err x)) (sym h) tt
+difference_told p q race_free (Differ text) h = (race_free, h)
+difference_told p q race_free e h = subst (λ x. Compares p q (Err x)) (sym h) tt
 
-pub can_be_compared : (p : Program) (comps vars : ℕ) (ns : List (Node Leaf)) (d : ℕ) → comps ≡ count p.fields → vars ≡ length p.vars → HasWhole p ns d → CanBeCompared comps vars ns d
-can_be_compared p comps vars ns d c v w = rw (c, v) (record {
+pub can_be_compared : (p : Program) (comps arrays : ℕ) (ns : List (Node Leaf)) (d : ℕ) → comps ≡ count p.fields → arrays ≡ length p.arrays → HasWhole p ns d → CanBeCompared comps arrays ns d
+can_be_compared p comps arrays ns d c v w = rw (c, v) (record {
   below = w.1.below;
-  fits = comparable (record { comps = count p.fields; vars = length p.vars }) (diagram ns d) w.1.bounds w.1.calm;
+  fits = comparable (record { comps = count p.fields; arrays = length p.arrays }) (diagram ns d) w.1.bounds w.1.race_free;
 })
 
 module _ (p q : Program) (ns os : List (Node Leaf)) (d e : ℕ) (alike : AreDeclaredAlike p q) (first : HasWhole p ns d) (second : HasWhole q os e) where
@@ -47,8 +47,8 @@ module _ (p q : Program) (ns os : List (Node Leaf)) (d e : ℕ) (alike : AreDecl
   pub mean_same : (comps : ℕ) → comps ≡ count p.fields → ((m : Arrays) (k : List ℕ) → IsStore m → IsPacket comps k → DoSame ns d os e m k) → MeanSame p q
   mean_same comps is h m k store packet = evaluated m k store packet (h m k store (subst (λ n. IsPacket n k) (sym is) packet))
 
-  pub tell_apart : (comps vars : ℕ) (m : Arrays) (k : List ℕ) → comps ≡ count p.fields → vars ≡ length p.vars → DoApart comps vars ns d os e m k → TellApart p q m k
-  tell_apart comps vars m k is are h =
+  pub tell_apart : (comps arrays : ℕ) (m : Arrays) (k : List ℕ) → comps ≡ count p.fields → arrays ≡ length p.arrays → DoApart comps arrays ns d os e m k → TellApart p q m k
+  tell_apart comps arrays m k is are h =
       let packet : IsPacket (count p.fields) k = subst (λ n. IsPacket n k) is h.of.packet in
       record {
         of = record { store = h.of.store; only = λ at l. h.of.only at (rw are l); packet = packet };

@@ -11,9 +11,9 @@ pub mod DueStatus
 pub mod EqualLemmas
 pub mod EqualOnce
 pub mod EqualPrograms
-pub mod InTurnLemmas
-pub mod InTurnOnce
-pub mod InTurnTraced
+pub mod InOrderLemmas
+pub mod InOrderOnce
+pub mod InOrderTraced
 pub mod NamedWords
 pub mod InputsLemmas
 pub mod NetworkLemmas
@@ -59,4 +59,4 @@ pub mod TraceOnce
 pub mod Traced
 pub mod RunTraced
 pub mod AsOneSwitch
-pub mod LoneTraced
+pub mod SingleOwnerTraced

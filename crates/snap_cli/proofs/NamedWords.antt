@@ -7,7 +7,7 @@ use Rattle.std.proofs.lemmas.Bool.{false≢true, and_parts, ltb-true}
 use Rattle.std.proofs.lemmas.Str.{IsUtf8-from_ascii, is_utf8-from_IsUtf8}
 use Rattle.std.proofs.lemmas.Str.Ascii.{IsAscii-nil, IsAscii-cons}
 use Rattle.snap_words.specs.Commands.{command_of, command_for, command_in}
-use Rattle.snap_words.specs.Words.{Told, add, checked, flagged, is_name, name_word, nothing, on_demand_flag, tell, with_names, word_of}
+use Rattle.snap_words.specs.Words.{ArgumentsView, add, checked, flagged, is_name, name_word, nothing, on_demand_flag, arguments_of, with_names, word_of}
 use Rattle.snap_cli.specs.Headline.{CanName, compile_words, trace_words}
 use Rattle.snap_cli.proofs.Shared.{compile, plain, trace}
 
@@ -28,27 +28,27 @@ word_of-name (x ∷ xs) h = by (x == 45) refl h
     by false e k = rw e refl
 
 -- names behind what was said before
-tell-two : (t : Told) (a b : List ℕ) → CanName a → CanName b → tell (a ∷ b ∷ []) None t ≡ Some (with_names (with_names t (a ∷ [])) (b ∷ []))
-tell-two t a b h k =
-    ap (λ w. add w t a (b ∷ []) (tell (b ∷ []))) (word_of-name a h.1)
-    ∙ ap (λ w. add w (with_names t (a ∷ [])) b [] (tell [])) (word_of-name b k.1)
+arguments_of-two : (t : ArgumentsView) (a b : List ℕ) → CanName a → CanName b → arguments_of (a ∷ b ∷ []) None t ≡ Some (with_names (with_names t (a ∷ [])) (b ∷ []))
+arguments_of-two t a b h k =
+    ap (λ w. add w t a (b ∷ []) (arguments_of (b ∷ []))) (word_of-name a h.1)
+    ∙ ap (λ w. add w (with_names t (a ∷ [])) b [] (arguments_of [])) (word_of-name b k.1)
 
-tell-three : (t : Told) (a b c : List ℕ) → CanName a → CanName b → CanName c
-    → tell (a ∷ b ∷ c ∷ []) None t ≡ Some (with_names (with_names (with_names t (a ∷ [])) (b ∷ [])) (c ∷ []))
-tell-three t a b c h k l = ap (λ w. add w t a (b ∷ c ∷ []) (tell (b ∷ c ∷ []))) (word_of-name a h.1) ∙ tell-two (with_names t (a ∷ [])) b c k l
+arguments_of-three : (t : ArgumentsView) (a b c : List ℕ) → CanName a → CanName b → CanName c
+    → arguments_of (a ∷ b ∷ c ∷ []) None t ≡ Some (with_names (with_names (with_names t (a ∷ [])) (b ∷ [])) (c ∷ []))
+arguments_of-three t a b c h k l = ap (λ w. add w t a (b ∷ c ∷ []) (arguments_of (b ∷ c ∷ []))) (word_of-name a h.1) ∙ arguments_of-two (with_names t (a ∷ [])) b c k l
 
 pub command_of-compile : (on_demand : Bool) (a b c : List ℕ) → CanName a → CanName b → CanName c → command_of (compile_words on_demand a b c) ≡ Some (compile a b c on_demand)
 command_of-compile false a b c h k l =
     ap (λ (x : Bool). if x then command_in (compile_words false a b c) else None) (λ i. plain_utf8 (codes "compile") refl i && (h.0 i && (k.0 i && (l.0 i && true))))
-    ∙ ap (λ t. option_and_then (command_for (codes "compile")) (option_and_then checked t)) (tell-three nothing a b c h k l)
+    ∙ ap (λ t. option_and_then (command_for (codes "compile")) (option_and_then checked t)) (arguments_of-three nothing a b c h k l)
     ∙ ap (λ (x : Bool). option_and_then (command_for (codes "compile")) (if x then Some (with_names (with_names (with_names nothing (a ∷ [])) (b ∷ [])) (c ∷ [])) else None)) (λ i. (h.1 i && (k.1 i && (l.1 i && true))) && true)
 command_of-compile true a b c h k l =
     ap (λ (x : Bool). if x then command_in (compile_words true a b c) else None) (λ i. plain_utf8 (codes "compile") refl i && (plain_utf8 (codes "--on-demand") refl i && (h.0 i && (k.0 i && (l.0 i && true)))))
-    ∙ ap (λ t. option_and_then (command_for (codes "compile")) (option_and_then checked t)) (tell-three (flagged nothing on_demand_flag) a b c h k l)
+    ∙ ap (λ t. option_and_then (command_for (codes "compile")) (option_and_then checked t)) (arguments_of-three (flagged nothing on_demand_flag) a b c h k l)
     ∙ ap (λ (x : Bool). option_and_then (command_for (codes "compile")) (if x then Some (with_names (with_names (with_names (flagged nothing on_demand_flag) (a ∷ [])) (b ∷ [])) (c ∷ [])) else None)) (λ i. (h.1 i && (k.1 i && (l.1 i && true))) && true)
 
 pub command_of-trace : (a b : List ℕ) → CanName a → CanName b → command_of (trace_words a b) ≡ Some (trace a b false plain)
 command_of-trace a b h k =
     ap (λ (x : Bool). if x then command_in (trace_words a b) else None) (λ i. plain_utf8 (codes "trace") refl i && (h.0 i && (k.0 i && true)))
-    ∙ ap (λ t. option_and_then (command_for (codes "trace")) (option_and_then checked t)) (tell-two nothing a b h k)
+    ∙ ap (λ t. option_and_then (command_for (codes "trace")) (option_and_then checked t)) (arguments_of-two nothing a b h k)
     ∙ ap (λ (x : Bool). option_and_then (command_for (codes "trace")) (if x then Some (with_names (with_names nothing (a ∷ [])) (b ∷ [])) else None)) (λ i. (h.1 i && (k.1 i && true)) && true)

@@ -1,8 +1,8 @@
 -- What the reading of a topology with its routes gives, from what its steps did.
 use Rattle.std.proofs.Common.{ℕ, List, Ok, Err, refl}
-use Rattle.snap_route.specs.declared.table.RouteFault.{RouteFault}
-use Rattle.snap_route.specs.declared.table.RouteFault.TheVariants as route
-use Rattle.snap_route.specs.Faults.{IsCause}
+use Rattle.snap_topology.specs.declared.table.RouteFault.{RouteFault}
+use Rattle.snap_topology.specs.declared.table.RouteFault.TheVariants as route
+use Rattle.snap_topology.specs.Faults.{IsCause}
 use Rattle.snap_cli.specs.NetworkSteps.{GivesNetwork}
 use Rattle.snap_cli.specs.RoutesSteps.{refusal_of_routes}
 use Rattle.snap_cli.proofs.Shared.{IsUnreachable, Topology, TopologyOf}

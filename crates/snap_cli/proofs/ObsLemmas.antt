@@ -1,7 +1,7 @@
 -- What `obs` did, from what its steps did.
 use Rattle.std.proofs.Common.{ℕ, List, Option, Ok, Err, refl, inl, inr}
-use Rattle.snap_trace.specs.declared.fault.TraceFault.TheVariants as run
-use Rattle.snap_trace.specs.OneSwitch.{WritesReport}
+use Rattle.snap_report.specs.declared.fault.TraceFault.TheVariants as run
+use Rattle.snap_report.specs.OneSwitch.{WritesReport}
 use Rattle.snap_words.specs.Commands.{obs}
 use Rattle.snap_cli.specs.Obs.{EndsObs, IsObsText, MeetsRun, RunsTo}
 use Rattle.snap_cli.specs.Steps.{refusal_of_run}

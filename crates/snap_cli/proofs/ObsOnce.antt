@@ -3,10 +3,10 @@ use Rattle.std.proofs.Common.{◌≡◌, ◌++◌, ◌+◌, ◌<◌, ℕ, List, 
 use Rattle.std.proofs.lemmas.Option.{same_Some}
 use Rattle.std.proofs.lemmas.List.{take-take}
 use Rattle.snap_core.specs.Switch.{one_big_switch}
-use Rattle.snap_trace.specs.declared.fault.TraceFault.TheVariants as run
-use Rattle.snap_trace.specs.OneSwitch.{EndsAsRead, IsReport, IsUndefinedAfter, made_text}
-use Rattle.snap_trace.specs.Reports.{end_text}
-use Rattle.snap_trace.proofs.SwitchLemmas.{switch-take}
+use Rattle.snap_report.specs.declared.fault.TraceFault.TheVariants as run
+use Rattle.snap_report.specs.OneSwitch.{EndsAsRead, IsReport, IsUndefinedAfter, made_text}
+use Rattle.snap_report.specs.Reports.{end_text}
+use Rattle.snap_report.proofs.SwitchLemmas.{switch-take}
 use Rattle.snap_cli.proofs.Shared.{ended, Ending, HasOneListing, IsRunEnding, Program, refused, RunEnding, spelled, Stop, Switched, zero_arrays}
 
 pub run_ends_once : (r : RunEnding) (a b : Ending) → IsRunEnding r a → IsRunEnding r b → a ≡ b
@@ -27,9 +27,9 @@ module _ (lists : HasOneListing) (p : Program) where
   abbrev Switch : List (List ℕ) → Option Switched
   Switch packets = one_big_switch p.body zero_arrays packets
 
-  read_once : (stop : Stop) (made : Switched) (e f : RunEnding) (a b : List ℕ) → EndsAsRead p.fields p.vars stop made e a → EndsAsRead p.fields p.vars stop made f b → (e ≡ f) × (a ≡ b)
+  read_once : (stop : Stop) (made : Switched) (e f : RunEnding) (a b : List ℕ) → EndsAsRead p.fields p.arrays stop made e a → EndsAsRead p.fields p.arrays stop made f b → (e ≡ f) × (a ≡ b)
   read_once ended made e f a b h k =
-      (h.0 ∙ sym k.0, h.1.2 ∙ (ap (λ entries. made_text p.fields made ++ end_text p.vars entries) (lists made.arrays h.1.0 k.1.0 h.1.1 k.1.1) ∙ sym k.1.2))
+      (h.0 ∙ sym k.0, h.1.2 ∙ (ap (λ entries. made_text p.fields made ++ end_text p.arrays entries) (lists made.arrays h.1.0 k.1.0 h.1.1 k.1.1) ∙ sym k.1.2))
   read_once (refused fault) made e f a b h k = (h.0 ∙ sym k.0, h.1 ∙ sym k.1)
 
   -- one big switch that is defined on all packets is undefined after none
@@ -50,7 +50,7 @@ module _ (lists : HasOneListing) (p : Program) where
   reports_once file a b e f (inl h) (inl k) =
       let read = spelled p.fields file in
       let same = same_Some h.0 k.0 (sym h.1 ∙ k.1) in
-      read_once read.stop k.0 e f a b (subst (λ made. EndsAsRead p.fields p.vars read.stop made e a) same h.2) k.2
+      read_once read.stop k.0 e f a b (subst (λ made. EndsAsRead p.fields p.arrays read.stop made e a) same h.2) k.2
   reports_once file a b e f (inl h) (inr k) = absurd (never_after (spelled p.fields file).packets h.0 k.1 k.0 h.1 k.2)
   reports_once file a b e f (inr h) (inl k) = absurd (never_after (spelled p.fields file).packets k.0 h.1 h.0 k.1 h.2)
   reports_once file a b e f (inr h) (inr k) =

@@ -4,12 +4,12 @@ use Rattle.std.specs.Prelude.{option_and_then}
 use Rattle.snap_core.specs.Meaning.{Meaning}
 use Rattle.snap_core.specs.Packets.{PacketSet}
 use Rattle.snap_core.specs.Switch.{one_big_switch}
-use Rattle.snap_trace.specs.Reports.{block, end_text}
-use Rattle.snap_whole.specs.OneSwitch.{port_lines}
+use Rattle.snap_report.specs.Reports.{block, end_text}
+use Rattle.snap_refinement.specs.OneSwitch.{port_lines}
 use Rattle.snap_rows.specs.Entries.{port_numbers}
-use Rattle.snap_move.specs.OneSwitch.{IsSwitchReportUnder, blocks_under}
+use Rattle.snap_refinement.specs.ChangingSwitch.{IsSwitchReportUnder, blocks_under}
 use Rattle.snap_cli.proofs.SameCore.{same_eval, same_fields, same_names}
-use Rattle.snap_move.specs.OneSwitch.{IsChangingReport, changing_switch}
+use Rattle.snap_refinement.specs.ChangingSwitch.{IsChangingReport, changing_switch}
 use Rattle.snap_cli.specs.Upgrades.{ChangesTraceAsOneSwitch, UpgradesTraceAsOneSwitch}
 use Rattle.snap_cli.proofs.Shared.{Arrays, core_program, file_of, in_force, option_map, Program, spelled, SpellsOneProgram, Switched, zero_arrays}
 

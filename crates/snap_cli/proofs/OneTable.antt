@@ -4,12 +4,12 @@ use Rattle.std.specs.Prelude.{◌≢◌, codes, decimal}
 use Rattle.std.specs.List.{concat, range_with_len}
 use Rattle.std.proofs.lemmas.Bool.{cases_eq, cases_lt}
 use Rattle.std.proofs.lemmas.Bool.Decides.{eqb_tells}
-use Rattle.snap_route.specs.Tables.{next_of}
-use Rattle.snap_route.specs.Walks.{HasWalk, IsDiameter, IsDistance, IsNext, IsWalk, Linked}
-use Rattle.snap_route.proofs.Walking.{distance-walk}
+use Rattle.snap_topology.specs.Tables.{next_of}
+use Rattle.snap_topology.specs.Walks.{HasWalk, IsDiameter, IsDistance, IsNext, IsWalk, Linked}
+use Rattle.snap_topology.proofs.Walking.{distance-walk}
 use Rattle.snap_cli.specs.Routes.{end_text, line_between, lines_from}
 use Rattle.snap_cli.proofs.Pipeline.{least_once}
-use Rattle.snap_seek.proofs.Once.{same_distance}
+use Rattle.snap_placement.proofs.Once.{same_distance}
 use Rattle.snap_runs.specs.Tallies.{name_in}
 use Rattle.snap_cli.proofs.Shared.{AreRoutes, flat_map, IsUnreachable, routes_text, Table, Topology}
 

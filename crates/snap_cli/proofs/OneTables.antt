@@ -7,7 +7,7 @@ use Rattle.snap_cli.specs.declared.refusal.NoTables.TheVariants.{Line, Broken}
 use Rattle.snap_cli.specs.declared.refusal.Refusal.TheVariants as refused
 use Rattle.snap_cli.specs.TablesOf.{SpellsTables}
 use Rattle.snap_cli.specs.TraceSteps.{refusal_of_tables}
-use Rattle.snap_cli.proofs.Shared.{IsInForm, IsRead, Refusal, Tables, TablesOf}
+use Rattle.snap_cli.proofs.Shared.{IsWellFormed, IsRead, Refusal, Tables, TablesOf}
 use Rattle.snap_cli.proofs.Pipeline.{Agree, Alike, alike, within_once}
 
 -- what is read of a text, as the command tells it
@@ -29,6 +29,6 @@ one_tables one file = alike (within_once _ _ _ _ _ (λ a b h k.
     x.3 ∙ (ap told (one file x.0 y.0 x.1 y.1 x.2 y.2) ∙ sym y.3)))
 
 -- the tables of a file are in form
-pub spelled_form : (file : List ℕ) (t : Tables) → TablesOf file (Ok t) → IsInForm t
+pub spelled_form : (file : List ℕ) (t : Tables) → TablesOf file (Ok t) → IsWellFormed t
 spelled_form file t (inl h) = absurd (let e = h.1 in cc)
 spelled_form file t (inr h) = h.1.3

@@ -8,12 +8,12 @@ use Rattle.std.proofs.lemmas.List.Kept.{AllPairs-cons}
 use Rattle.std.proofs.lemmas.Map.Keys.{sorted_tail}
 use Rattle.std.proofs.lemmas.Map.Views.{All-after_first}
 use Rattle.snap_core.specs.declared.program.Which.{Which}
-use Rattle.snap_topo.specs.declared.topology.TopoFault.{TopoFault}
-use Rattle.snap_topo.specs.declared.topology.TopoFault.TheVariants as topo
-use Rattle.snap_topo.specs.Answer.{DifferentThen, IsAnswer, IsTopologyOf, KnownThen, SpelledThen, WithinThen, first_repeat, first_unknown, too_many}
+use Rattle.snap_topology.specs.declared.topology.TopoFault.{TopoFault}
+use Rattle.snap_topology.specs.declared.topology.TopoFault.TheVariants as topo
+use Rattle.snap_topology.specs.Answer.{DifferentThen, IsAnswer, IsTopologyOf, KnownThen, SpelledThen, WithinThen, first_repeat, first_unknown, too_many}
 use Rattle.snap_core.specs.Ports.{link_cmp}
-use Rattle.snap_topo.specs.Shape.{Spelled, spelled}
-use Rattle.snap_topo.proofs.Pairs.{link_cmp_total}
+use Rattle.snap_topology.specs.Shape.{Spelled, spelled}
+use Rattle.snap_topology.proofs.Pairs.{link_cmp_total}
 use Rattle.snap_cli.specs.declared.refusal.Refusal.TheVariants as refused
 use Rattle.snap_cli.specs.declared.refusal.TopologyFault.{TopologyFault}
 use Rattle.snap_cli.specs.declared.refusal.TopologyFault.TheVariants.{NotToml}

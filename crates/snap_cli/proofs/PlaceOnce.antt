@@ -4,15 +4,15 @@ use Rattle.snap_core.specs.Programs.{IsBounded}
 use Rattle.snap_dep.specs.Dependencies.{TiedIsEquivalence, UsesBelow}
 use Rattle.snap_dep.specs.Ranks.{HasOneRank}
 use Rattle.snap_dep.proofs.Below.{UsesBelow-fits}
-use Rattle.snap_place.specs.Printed.{placement_text}
-use Rattle.snap_seek.specs.declared.best.Best.{Best}
-use Rattle.snap_seek.specs.declared.demand.Demand.{Demand}
-use Rattle.snap_seek.specs.declared.demand.DemandFault.{DemandFault}
-use Rattle.snap_seek.specs.Answer.{IsAnswer, PlacesThen, SpelledThen, first_fault}
-use Rattle.snap_seek.specs.Placements.{AreGroups, IsBestOf}
-use Rattle.snap_seek.specs.Shape.{Spelled, spelled}
-use Rattle.snap_seek.proofs.Once.{answer-apart, answer-once, answer-same, bare, bare-answer, bare-best, bare-ordered, best-once}
-use Rattle.snap_seek.proofs.Ranked.{ordered}
+use Rattle.snap_placement.specs.Printed.{placement_text}
+use Rattle.snap_placement.specs.declared.best.Best.{Best}
+use Rattle.snap_placement.specs.declared.demand.Demand.{Demand}
+use Rattle.snap_placement.specs.declared.demand.DemandFault.{DemandFault}
+use Rattle.snap_placement.specs.DemandAnswer.{IsAnswer, PlacesThen, SpelledThen, first_fault}
+use Rattle.snap_placement.specs.Placements.{AreGroups, IsBestOf}
+use Rattle.snap_placement.specs.DemandShape.{Spelled, spelled}
+use Rattle.snap_placement.proofs.Once.{answer-apart, answer-once, answer-same, bare, bare-answer, bare-best, bare-ordered, best-once}
+use Rattle.snap_placement.proofs.Ranked.{ordered}
 use Rattle.snap_cli.specs.Place.{HasNoDemand, HasNoPlacement, IsPlaced, IsPlacementOf, SpellsNoDemand, refusal_of_demand}
 use Rattle.snap_cli.proofs.Shared.{AreRoutes, core_program, count, document, file_of, Files, Grouping, IsGrouping, Pol, Program, ProgramOf, Refusal, SpellsOneProgram, Table, Topology}
 use Rattle.snap_cli.proofs.Pipeline.{After, Agree, IsSameOutcome, after_once, next_once, one_program, refused_alike, within_once}
@@ -68,9 +68,9 @@ module _ (p q : Program) (same : core_program p ≡ core_program q) where
 
 module _ (tied : (p : Pol) → TiedIsEquivalence p) (one : (p : Pol) (n : ℕ) → UsesBelow n p → HasOneRank p n) (p : Program) (bounded : IsBounded p) where
   -- the ranks and the order are one
-  same-bare : (g h : Grouping) → IsGrouping p.body (length p.vars) g → IsGrouping p.body (length p.vars) h → bare g ≡ bare h
+  same-bare : (g h : Grouping) → IsGrouping p.body (length p.arrays) g → IsGrouping p.body (length p.arrays) h → bare g ≡ bare h
   same-bare g h x y =
-      let n = length p.vars in
+      let n = length p.arrays in
       let both = one_grouping p.body n (tied p.body) (one p.body n (UsesBelow-fits (count p.fields) n p.body bounded.fits)) g h x y in
       ap₂ (λ (r o : List ℕ). record { ranks = r; order = o }) both.0 both.1
 
@@ -79,7 +79,7 @@ module _ (tied : (p : Pol) → TiedIsEquivalence p) (one : (p : Pol) (n : ℕ) �
       let same = same-bare h.grouping k.grouping h.groups k.groups in
       let x = bare-answer p h.grouping t text (Err h.fault) h.answer in
       let y = subst (λ (g : Grouping). IsAnswer p g t text (Err k.fault)) (sym same) (bare-answer p k.grouping t text (Err k.fault) k.answer) in
-      h.is ∙ (ap (refusal_of_demand p.vars) (answer-once p (bare h.grouping) t text h.fault k.fault x y) ∙ sym k.is)
+      h.is ∙ (ap (refusal_of_demand p.arrays) (answer-once p (bare h.grouping) t text h.fault k.fault x y) ∙ sym k.is)
 
   has-none-once : (t : Topology) (file : List ℕ) → Agree ◌≡◌ (HasNoDemand p t file) (HasNoDemand p t file)
   has-none-once t file = within_once _ _ _ _ _ (spells-none-once t file)
@@ -103,7 +103,7 @@ module _ (tied : (p : Pol) → TiedIsEquivalence p) (one : (p : Pol) (n : ℕ) �
       let best = subst (λ (i : Grouping). IsBestOf i t y k.demand k.best) (sym same) (bare-best k.grouping t y k.demand k.best k.is_best) in
       let bests = best-once (bare g) t x y (bare-ordered g (ordered g groups)) h.form rx ry h.demand k.demand h.best k.best (answer-same p (bare g) t file h.demand k.demand h.groups.count one-answer other)
       (bare-best g t x h.demand h.best h.is_best) best in
-      h.is ∙ (ap (λ (b : Best). placement_text p.vars t.switches b.owners b.cost) bests ∙ sym k.is)
+      h.is ∙ (ap (λ (b : Best). placement_text p.arrays t.switches b.owners b.cost) bests ∙ sym k.is)
 
   placed-once : (t : Topology) (file : List ℕ) → Agree (IsSameOutcome ◌≡◌) (Placed file p t) (Placed file p t)
   placed-once t file (Ok a) (Ok b) h k = placement-once t h.0 k.0 file a b h.1 k.1 h.2 k.2

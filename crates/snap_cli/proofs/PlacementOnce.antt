@@ -1,11 +1,11 @@
 -- A file spells one placement for programs with one core program, or is refused for one reason.
 use Rattle.std.proofs.Common.{◌≡◌, ℕ, List, Option, Some, None, Result, Ok, Err, sym, ◌∙◌, ap, ap₂, subst}
 use Rattle.snap_dep.specs.Dependencies.{Tied}
-use Rattle.snap_place.specs.declared.placement.PlaceFault.{PlaceFault}
-use Rattle.snap_place.specs.declared.placement.PlaceFault.TheVariants.{Apart}
-use Rattle.snap_place.specs.Answer.{IsAnswer, MissingThen, OwnersThen, ShapeThen, SwitchThen, VariableThen, missing, no_switch, no_variable, owners}
-use Rattle.snap_place.specs.Shape.{entries_of}
-use Rattle.snap_place.specs.Together.{IsTogether, TellsApart}
+use Rattle.snap_placement.specs.declared.placement.PlaceFault.{PlaceFault}
+use Rattle.snap_placement.specs.declared.placement.PlaceFault.TheVariants.{Apart}
+use Rattle.snap_placement.specs.Answer.{IsAnswer, MissingThen, OwnersThen, ShapeThen, SwitchThen, VariableThen, missing, no_switch, no_variable, owners}
+use Rattle.snap_placement.specs.Shape.{entries_of}
+use Rattle.snap_placement.specs.Together.{IsTogether, TellsApart}
 use Rattle.snap_cli.specs.PlacementOf.{PlacementOf, SpellsPlacement, refusal_of_placement}
 use Rattle.snap_cli.proofs.Shared.{core_program, document, Program, Refusal, Topology}
 use Rattle.snap_cli.proofs.Pipeline.{Agree, Alike, alike, least_once, within_once}
@@ -40,17 +40,17 @@ module _ (P Q : ℕ → ℕ → Type 0) (to : (a b : ℕ) → P a b → Q a b) (
     switch-once (Some var) r s h k = h ∙ sym k
     switch-once None r s h k = owners-once r s h k
 
-  module _ (vars switches : List (List ℕ)) where
-    missing-once : (entries : List (List ℕ × List ℕ)) (x : Option ℕ) (r s : Result (List ℕ) PlaceFault) → MissingThen P vars switches entries x r → MissingThen Q vars switches entries x s → r ≡ s
+  module _ (arrays switches : List (List ℕ)) where
+    missing-once : (entries : List (List ℕ × List ℕ)) (x : Option ℕ) (r s : Result (List ℕ) PlaceFault) → MissingThen P arrays switches entries x r → MissingThen Q arrays switches entries x s → r ≡ s
     missing-once entries (Some var) r s h k = h ∙ sym k
-    missing-once entries None r s h k = switch-once (owners vars switches entries) (no_switch vars switches entries) r s h k
+    missing-once entries None r s h k = switch-once (owners arrays switches entries) (no_switch arrays switches entries) r s h k
 
-    variable-once : (entries : List (List ℕ × List ℕ)) (x : Option (List ℕ × List ℕ)) (r s : Result (List ℕ) PlaceFault) → VariableThen P vars switches entries x r → VariableThen Q vars switches entries x s → r ≡ s
+    variable-once : (entries : List (List ℕ × List ℕ)) (x : Option (List ℕ × List ℕ)) (r s : Result (List ℕ) PlaceFault) → VariableThen P arrays switches entries x r → VariableThen Q arrays switches entries x s → r ≡ s
     variable-once entries (Some entry) r s h k = h ∙ sym k
-    variable-once entries None r s h k = missing-once entries (missing vars entries) r s h k
+    variable-once entries None r s h k = missing-once entries (missing arrays entries) r s h k
 
-    shape-once : (x : Result (List (List ℕ × List ℕ)) PlaceFault) (r s : Result (List ℕ) PlaceFault) → ShapeThen P vars switches x r → ShapeThen Q vars switches x s → r ≡ s
-    shape-once (Ok entries) r s h k = variable-once entries (no_variable vars entries) r s h k
+    shape-once : (x : Result (List (List ℕ × List ℕ)) PlaceFault) (r s : Result (List ℕ) PlaceFault) → ShapeThen P arrays switches x r → ShapeThen Q arrays switches x s → r ≡ s
+    shape-once (Ok entries) r s h k = variable-once entries (no_variable arrays entries) r s h k
     shape-once (Err e) r s h k = h ∙ sym k
 
 -- two programs with one core program
@@ -58,7 +58,7 @@ module _ (p q : Program) (same : core_program p ≡ core_program q) (t : Topolog
   answer-once : (text : List ℕ) (r s : Result (List ℕ) PlaceFault) → IsAnswer p t text r → IsAnswer q t text s → r ≡ s
   answer-once text r s h k =
       let entries = entries_of (document text) in
-      shape-once (Tied p.body) (Tied q.body) (same_tied p q same) (same_tied q p (sym same)) p.vars t.switches entries r s h
+      shape-once (Tied p.body) (Tied q.body) (same_tied p q same) (same_tied q p (sym same)) p.arrays t.switches entries r s h
       (subst (λ (vs : List (List ℕ)). ShapeThen (Tied q.body) vs t.switches entries s) (sym (same_names p q same)) k)
 
   spelled-once : (text : List ℕ) (r s : Result (List ℕ) Refusal) → SpellsPlacement p t text r → SpellsPlacement q t text s → r ≡ s

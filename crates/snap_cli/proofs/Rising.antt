@@ -2,7 +2,7 @@
 use Rattle.std.proofs.Common.{◌≡◌, suc, ◌⊎◌, inl, inr, List, [], ◌∷◌, refl, sym, subst, ap₂, arith}
 use Rattle.std.specs.List.{AllPairs, Contains}
 use Rattle.snap_core.proofs.Members.{Contains-here}
-use Rattle.snap_route.proofs.Joined.{Contains-cons_cases, Contains-tail}
+use Rattle.snap_topology.proofs.Joined.{Contains-cons_cases, Contains-tail}
 
 module _ {X : Type 0} (R : X → X → Type 0) (one_way : (a b : X) → R a b → R b a → ⊥) where
   head_below : (x : X) (xs : List X) → AllPairs R (x ∷ xs) → (z : X) → Contains xs z → R x z

@@ -1,6 +1,6 @@
 -- What a run by rounds did, as the command tells it.
 use Rattle.std.proofs.Common.{◌≡◌, ℕ, Bool, List, [], Option, Ok, Err, refl, sym, subst, inl, inr}
-use Rattle.snap_trace.specs.declared.fault.TraceFault.TheVariants as run
+use Rattle.snap_report.specs.declared.fault.TraceFault.TheVariants as run
 use Rattle.snap_order.specs.Rounds.{WritesRounds}
 use Rattle.snap_cli.specs.RoundsSteps.{MeetsByRounds}
 use Rattle.snap_cli.proofs.Shared.{Appends, Bor, Command, Ending, ending_of_run, Ends, file_of, Files, IsRunEnding, IsText, Limit, MayPrecede, MayPrecedeRead, Meets, Packets, refused, rounds, RoundsTo, RunEnding, spelled_for, Tables, TablesOf, trace, TraceFault, VersionOne}

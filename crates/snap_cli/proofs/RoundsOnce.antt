@@ -2,13 +2,13 @@
 use Rattle.std.proofs.Common.{Bool, sym, ◌∙◌, List, ℕ}
 use Rattle.snap_order.specs.OneRounds.{RoundReportsAreOne}
 use Rattle.snap_cli.specs.Rounds.{RunsByRoundsTo}
-use Rattle.snap_cli.proofs.Shared.{file_of, Files, IsInForm, RoundsTo, spelled_for, Tables}
-use Rattle.snap_cli.proofs.InTurnOnce.{by_version_once}
+use Rattle.snap_cli.proofs.Shared.{file_of, Files, IsWellFormed, RoundsTo, spelled_for, Tables}
+use Rattle.snap_cli.proofs.InOrderOnce.{by_version_once}
 use Rattle.snap_cli.proofs.ObsOnce.{AreOne}
 use Rattle.snap_cli.proofs.Pipeline.{cases_once}
 use Rattle.snap_cli.proofs.ScheduleOnce.{packets_once, whole_or_not}
 
-module _ (one : RoundReportsAreOne) (t : Tables) (form : IsInForm t) (hops : Bool) (files : Files) (packets : List ℕ) where
+module _ (one : RoundReportsAreOne) (t : Tables) (form : IsWellFormed t) (hops : Bool) (files : Files) (packets : List ℕ) where
   rounds_once : AreOne (RoundsTo t hops (file_of files packets))
   rounds_once a b e f =
       let file = file_of files packets in

@@ -3,12 +3,12 @@ use Rattle.std.proofs.Common.{◌≡◌, ℕ, Bool, false, List, [], Some, Ok, s
 use Rattle.snap_runs.specs.Plain as plain_run
 use Rattle.snap_order.specs.OneSwitch.{RunsByRoundsReportOneSwitch}
 use Rattle.snap_order.specs.Rounds.{HasRoundReport, IsRoundReport}
-use Rattle.snap_whole.specs.Laws.{PlainRunsReportOneSwitch}
+use Rattle.snap_refinement.specs.Laws.{PlainRunsReportOneSwitch}
 use Rattle.snap_cli.specs.Headline.{RoundsTraceAlike, RoundsTraceAsPlain}
 use Rattle.snap_cli.specs.Laws.{RoundsExactly}
 use Rattle.snap_cli.specs.Rounds.{RunsByRoundsTo}
 use Rattle.snap_cli.proofs.Shared.{AnswersExactly, CompilesExactly, Did, ended, Ending, file_of, Files, HasOneListing, ports_of, rounds, RoundsTo, spelled, spelled_for, SpelledForIsSpelled, SpelledPacketsFit, status_of, Tables, TablesOf, trace, TracesExactly, VersionOne}
-use Rattle.snap_cli.proofs.InTurnTraced.{switch_report_once}
+use Rattle.snap_cli.proofs.InOrderTraced.{switch_report_once}
 use Rattle.snap_cli.proofs.TraceOnce.{same_text}
 use Rattle.snap_cli.proofs.Traced.{no_failure, plain_ran, refused_apart, run_apart, told}
 

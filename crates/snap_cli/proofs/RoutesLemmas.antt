@@ -1,8 +1,8 @@
 -- What `routes` did, from what its steps did.
 use Rattle.std.proofs.Common.{ℕ, List, [], Option, Ok, Err, refl, sym, subst, inl, inr}
-use Rattle.snap_route.specs.declared.table.RouteFault.{RouteFault}
-use Rattle.snap_route.specs.declared.table.RouteFault.TheVariants as route
-use Rattle.snap_route.specs.Faults.{IsCause}
+use Rattle.snap_topology.specs.declared.table.RouteFault.{RouteFault}
+use Rattle.snap_topology.specs.declared.table.RouteFault.TheVariants as route
+use Rattle.snap_topology.specs.Faults.{IsCause}
 use Rattle.snap_words.specs.Commands.{routes}
 use Rattle.snap_cli.specs.declared.refusal.Refusal.TheVariants.{Unreachable}
 use Rattle.snap_cli.specs.Routes.{HasNoRoutes, IsTextOf}

@@ -4,7 +4,7 @@ use Rattle.std.specs.List.{filter, range_with_len}
 use Rattle.std.proofs.lemmas.Bool.Decides.{eqb_tells}
 use Rattle.std.proofs.lemmas.List.Concat.{flat_map-append}
 use Rattle.std.proofs.lemmas.List.Elements.{filter-append}
-use Rattle.snap_gen.proofs.LoneRuns.{range_more as range_from}
+use Rattle.snap_faithful.proofs.SingleOwnerRuns.{range_more as range_from}
 use Rattle.snap_cli.proofs.Shared.{flat_map}
 
 range_more : (n : ℕ) → range_with_len 0 (n + 1) ≡ range_with_len 0 n ++ n ∷ []

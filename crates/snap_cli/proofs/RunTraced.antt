@@ -1,31 +1,31 @@
 -- What is compiled and then traced is what one big switch does, in each order of events, with hops or without.
 use Rattle.std.proofs.Common.{◌≡◌, ◌⊎◌, ℕ, Bool, false, List, [], length, Option, Some, None, Ok, refl, sym, subst, ◌∙◌, inl, inr}
 use Rattle.snap_rows.specs.Happenings.{commits}
-use Rattle.snap_rows.specs.Lone.{IsLone}
+use Rattle.snap_rows.specs.SingleOwner.{IsSingleOwner}
 use Rattle.snap_rows.specs.Network.{Happening}
-use Rattle.snap_gen.specs.Agreement.{numbered}
-use Rattle.snap_gen.specs.Faithful.{most_hops}
-use Rattle.snap_runs.specs.Laws.{CalmSchedulesRunCalmly, RunsReportWithoutHops, SchedulesKeepOrder}
+use Rattle.snap_faithful.specs.Agreement.{numbered}
+use Rattle.snap_faithful.specs.Faithful.{most_hops}
+use Rattle.snap_runs.specs.Laws.{SequentialSchedulesRunSequentially, RunsReportWithoutHops, SchedulesKeepOrder}
 use Rattle.snap_runs.specs.Reports.{IsRunReportBy}
-use Rattle.snap_runs.specs.Schedules.{IsCalm, IsScheduleReport}
-use Rattle.snap_whole.specs.InOrder.{IsSwitchReportIn, LoneRunsReportInOrder, TheReportIsInTurn}
-use Rattle.snap_whole.specs.Laws.{CalmRunsReportOneSwitch, IsHopWithin, PlainRunsAreShort, PlainRunsReportOneSwitch, RunsAreShort}
-use Rattle.snap_whole.specs.OneSwitch.{IsSwitchReport}
+use Rattle.snap_runs.specs.Schedules.{IsSequential, IsScheduleReport}
+use Rattle.snap_refinement.specs.InOrder.{IsSwitchReportIn, SingleOwnerRunsReportInOrder, TheReportIsInOrder}
+use Rattle.snap_refinement.specs.Laws.{SequentialRunsReportOneSwitch, IsHopWithin, PlainRunsAreShort, PlainRunsReportOneSwitch, RunsAreShort}
+use Rattle.snap_refinement.specs.OneSwitch.{IsSwitchReport}
 use Rattle.snap_order.specs.OneRounds.{RoundsRunToEnds}
-use Rattle.snap_order.specs.OneSwitch.{PlainRunsInTurnReportOneSwitch, RunsByRoundsReportOneSwitch, SchedulesInTurnReportOneSwitch}
+use Rattle.snap_order.specs.OneSwitch.{PlainRunsInOrderReportOneSwitch, RunsByRoundsReportOneSwitch, SchedulesInOrderReportOneSwitch}
 use Rattle.snap_order.specs.Ordered.{happenings}
 use Rattle.snap_order.specs.Rounds.{IsRoundReport}
-use Rattle.snap_order.specs.ShortTurns.{PlainRunsInTurnAreShort, RunsInTurnAreShort}
+use Rattle.snap_order.specs.ShortTurns.{PlainRunsInOrderAreShort, RunsInOrderAreShort}
 use Rattle.snap_cli.specs.Compile.{version_of}
 use Rattle.snap_cli.specs.Headline.{MakesFewHops, RunInOrder, TakeEffectIn, TellsInOrder, TracesInOrder, frames_of}
 use Rattle.snap_cli.specs.Laws.{RoundsExactly, SchedulesExactly, TurnsExactly}
-use Rattle.snap_cli.proofs.Shared.{All, AnswersExactly, CompilesExactly, ended, Faithful, file_of, Files, in_turn, IsPacketOf, IsPlainReport, lines_of, option_map, Order, plain, ports_of, Program, rounds, schedule, spelled, SpelledForIsSpelled, SpelledPacketsFit, Tables, TablesOf, Topology, TracesExactly}
-use Rattle.snap_cli.proofs.InTurnTraced.{IsTurnsReport, in_turn_ran}
+use Rattle.snap_cli.proofs.Shared.{All, AnswersExactly, CompilesExactly, ended, Faithful, file_of, Files, in_order, IsPacketOf, IsPlainReport, lines_of, option_map, Order, plain, ports_of, Program, rounds, schedule, spelled, SpelledForIsSpelled, SpelledPacketsFit, Tables, TablesOf, Topology, TracesExactly}
+use Rattle.snap_cli.proofs.InOrderTraced.{IsTurnsReport, in_order_ran}
 use Rattle.snap_cli.proofs.RoundsTraced.{rounds_ran}
 use Rattle.snap_cli.proofs.ScheduleTraced.{scheduled}
 use Rattle.snap_cli.proofs.Traced.{plain_ran, told}
 
-module _ (without : RunsReportWithoutHops) (in_turn_is : TheReportIsInTurn) where
+module _ (without : RunsReportWithoutHops) (in_order_is : TheReportIsInOrder) where
   -- a run is told by its report
   tells : (files : Files) (order : Order) (file : List ℕ) (p : Program) (topology : Topology) (on_demand : Bool) (ks : List (List ℕ)) (hops : Bool) (text : List ℕ) (r : RunInOrder files order file ks)
       → IsRunReportBy (frames_of order) r.tables hops (length ks) r.end r.happenings text
@@ -42,7 +42,7 @@ module _ (without : RunsReportWithoutHops) (in_turn_is : TheReportIsInTurn) wher
 
   -- in the order of the packets' numbers
   as_injected : (p : Program) (ports : List ℕ) (ks : List (List ℕ)) (text : List ℕ) → IsSwitchReport p ports ks text → (numbers : List ℕ) → numbers ≡ numbered ks → IsSwitchReportIn p ports ks numbers text
-  as_injected p ports ks text one numbers is = subst (λ l. IsSwitchReportIn p ports ks l text) (sym is) (in_turn_is p ports ks text one)
+  as_injected p ports ks text one numbers is = subst (λ l. IsSwitchReportIn p ports ks l text) (sym is) (in_order_is p ports ks text one)
 
   module _ (exactly : AnswersExactly) (compiles : CompilesExactly) (fit : SpelledPacketsFit) (whole : SpelledForIsSpelled) where
     -- ---- one packet after another
@@ -64,16 +64,16 @@ module _ (without : RunsReportWithoutHops) (in_turn_is : TheReportIsInTurn) wher
         )
 
     -- ---- by a schedule
-    module _ (keeps : SchedulesKeepOrder) (calmly : CalmSchedulesRunCalmly) (calm_one : CalmRunsReportOneSwitch) (lone_one : LoneRunsReportInOrder) where
+    module _ (keeps : SchedulesKeepOrder) (sequentially : SequentialSchedulesRunSequentially) (sequential_one : SequentialRunsReportOneSwitch) (single_owner_one : SingleOwnerRunsReportInOrder) where
       by_schedule : (lines : List (List ℕ)) (p : Program) (topology : Topology) (places : List ℕ) (n : Tables) → Faithful p topology places n → (ks : List (List ℕ)) → All (IsPacketOf p) ks
           → (text : List ℕ) (r : IsScheduleReport n false ks lines text) → (numbers : List ℕ)
-          → (IsCalm n ks lines × (numbers ≡ numbered ks)) ⊎ (IsLone n × (numbers ≡ commits r.happenings)) → IsSwitchReportIn p (ports_of topology) ks numbers text
-      by_schedule lines p topology places n faithful ks fits text r numbers (inl (calm, is)) =
+          → (IsSequential n ks lines × (numbers ≡ numbered ks)) ⊎ (IsSingleOwner n × (numbers ≡ commits r.happenings)) → IsSwitchReportIn p (ports_of topology) ks numbers text
+      by_schedule lines p topology places n faithful ks fits text r numbers (inl (sequential, is)) =
           as_injected p (ports_of topology) ks text
-          (calm_one p topology places n faithful ks fits r.obeys.events r.state r.happenings (keeps lines ks r.obeys.events r.obeys.spells) (calmly n ks lines [] r.state r.happenings calm r.obeys) r.ended text r.report) numbers is
-      by_schedule lines p topology places n faithful ks fits text r numbers (inr (lone, is)) =
+          (sequential_one p topology places n faithful ks fits r.obeys.events r.state r.happenings (keeps lines ks r.obeys.events r.obeys.spells) (sequentially n ks lines [] r.state r.happenings sequential r.obeys) r.ended text r.report) numbers is
+      by_schedule lines p topology places n faithful ks fits text r numbers (inr (single_owner, is)) =
           subst (λ l. IsSwitchReportIn p (ports_of topology) ks l text) (sym is)
-          (lone_one p topology places n faithful lone ks fits r.obeys.events r.state r.happenings (keeps lines ks r.obeys.events r.obeys.spells) r.obeys.run r.ended text r.report)
+          (single_owner_one p topology places n faithful single_owner ks fits r.obeys.events r.state r.happenings (keeps lines ks r.obeys.events r.obeys.spells) r.obeys.run r.ended text r.report)
 
       pub schedule_traces : SchedulesExactly → RunsAreShort → (lines : List ℕ) → TracesInOrder (schedule lines)
       schedule_traces schedules short lines files later program topology placement tables packets on_demand hops output report c is d =
@@ -91,29 +91,29 @@ module _ (without : RunsReportWithoutHops) (in_turn_is : TheReportIsInTurn) wher
                 (short x.p x.t x.places x.n x.faithful groups most rank greatest ks x.fits r.obeys.events r.state r.happenings (keeps (lines_of (file_of later lines)) ks r.obeys.events r.obeys.spells) r.obeys.run)),
           )
 
-    -- ---- in turn
-    module _ (one : PlainRunsInTurnReportOneSwitch) (lines_one : SchedulesInTurnReportOneSwitch) (keeps : SchedulesKeepOrder) (short : RunsInTurnAreShort) (plain_short : PlainRunsInTurnAreShort) where
+    -- ---- in order
+    module _ (one : PlainRunsInOrderReportOneSwitch) (lines_one : SchedulesInOrderReportOneSwitch) (keeps : SchedulesKeepOrder) (short : RunsInOrderAreShort) (plain_short : PlainRunsInOrderAreShort) where
       tells_turns : (later : Files) (lines : Option (List ℕ)) (on_demand hops : Bool) (file : List ℕ) (p : Program) (topology : Topology) (places : List ℕ) (n : Tables) → Faithful p topology places n → n.version ≡ 2 → 2 ≡ version_of on_demand → TablesOf file (Ok n)
-          → (ks : List (List ℕ)) → All (IsPacketOf p) ks → (report : List ℕ) → IsTurnsReport n hops (option_map (file_of later) lines) ks report → TellsInOrder later (in_turn lines) file p topology on_demand ks hops report
+          → (ks : List (List ℕ)) → All (IsPacketOf p) ks → (report : List ℕ) → IsTurnsReport n hops (option_map (file_of later) lines) ks report → TellsInOrder later (in_order lines) file p topology on_demand ks hops report
       tells_turns later None on_demand hops file p topology places n faithful two is read ks fits report r =
-          tells later (in_turn None) file p topology on_demand ks hops report
+          tells later (in_order None) file p topology on_demand ks hops report
           (record { tables = n; read = read; end = r.end.net; happenings = happenings r.turns; goes = (r.end, r.turns, (r.events, r.run), refl, refl) }) r.report
           (λ text told. as_injected p (ports_of topology) ks text
           (one p topology places n faithful two ks fits text (record { events = r.events; end = r.end; turns = r.turns; run = r.run; report = told })))
           (λ groups most rank greatest. few_hops on_demand 2 (length groups) most (happenings r.turns) is (plain_short p topology places n faithful two groups most rank greatest ks fits r.events r.end r.turns r.run))
       tells_turns later (Some name) on_demand hops file p topology places n faithful two is read ks fits report r =
           let lines = lines_of (file_of later name) in
-          tells later (in_turn (Some name)) file p topology on_demand ks hops report
+          tells later (in_order (Some name)) file p topology on_demand ks hops report
           (record { tables = n; read = read; end = r.state.net; happenings = happenings r.turns; goes = (r.state, r.turns, (r.obeys, r.ended), refl, refl) }) r.report
           (λ text told. as_injected p (ports_of topology) ks text
           (lines_one p topology places n faithful two ks fits lines text (record { state = r.state; turns = r.turns; obeys = r.obeys; ended = r.ended; report = told })))
           (λ groups most rank greatest. few_hops on_demand 2 (length groups) most (happenings r.turns) is
           (short p topology places n faithful two groups most rank greatest ks fits r.obeys.events r.state r.turns (keeps lines ks r.obeys.events r.obeys.spells) r.obeys.run))
 
-      pub turn_traces : TurnsExactly → (lines : Option (List ℕ)) → TracesInOrder (in_turn lines)
+      pub turn_traces : TurnsExactly → (lines : Option (List ℕ)) → TracesInOrder (in_order lines)
       turn_traces turns lines files later program topology placement tables packets on_demand hops output report c is d =
-          let x = told exactly compiles fit whole (λ n ks. (n.version ≡ 2) × IsTurnsReport n hops (option_map (file_of later) lines) ks report) files later program topology placement tables packets on_demand hops (in_turn lines) output report c is d
-          (in_turn_ran turns later tables packets lines hops report d) in (
+          let x = told exactly compiles fit whole (λ n ks. (n.version ≡ 2) × IsTurnsReport n hops (option_map (file_of later) lines) ks report) files later program topology placement tables packets on_demand hops (in_order lines) output report c is d
+          (in_order_ran turns later tables packets lines hops report d) in (
             x.p,
             x.t,
             x.given,
@@ -121,7 +121,7 @@ module _ (without : RunsReportWithoutHops) (in_turn_is : TheReportIsInTurn) wher
           )
 
     -- ---- by rounds
-    pub round_traces : RoundsExactly → RunsByRoundsReportOneSwitch → RoundsRunToEnds → RunsInTurnAreShort → (workers : ℕ) → TracesInOrder (rounds workers)
+    pub round_traces : RoundsExactly → RunsByRoundsReportOneSwitch → RoundsRunToEnds → RunsInOrderAreShort → (workers : ℕ) → TracesInOrder (rounds workers)
     round_traces by_rounds one ends short workers files later program topology placement tables packets on_demand hops output report c is d =
         let x = told exactly compiles fit whole (λ n ks. (n.version ≡ 2) × IsRoundReport n hops ks report) files later program topology placement tables packets on_demand hops (rounds workers) output report c is d
         (rounds_ran by_rounds later tables packets workers hops report d) in

@@ -11,7 +11,7 @@ use Rattle.snap_core.specs.Switch.{one_big_switch}
 use Rattle.snap_core.specs.Meaning.{Meaning, eval, truth, vars_of, all_together, logged}
 use Rattle.snap_names.specs.Core.{CoreTest, id_test, drop_test, field_test, state_test, not_test, and_test, or_test, CorePolicy, filter, set, change, par, seq, choice, atomic, core_test, core_policy}
 use Rattle.snap_names.specs.Declarations.{CoreProgram}
-use Rattle.snap_trace.specs.OneSwitch.{EndsAsRead, IsReport, made_text}
+use Rattle.snap_report.specs.OneSwitch.{EndsAsRead, IsReport, made_text}
 use Rattle.snap_core.proofs.Switching.{in_front}
 use Rattle.snap_cli.proofs.Shared.{Arrays, core_program, option_map, Pol, Program, RunEnding, slice_index, spelled, zero_arrays}
 
@@ -78,8 +78,8 @@ module _ (p q : Program) (same : core_program p ≡ core_program q) where
   pub same_fields : p.fields ≡ q.fields
   same_fields = ap (λ (c : CoreProgram). c.fields) same
 
-  pub same_names : p.vars ≡ q.vars
-  same_names = ap (λ (c : CoreProgram). c.vars) same
+  pub same_names : p.arrays ≡ q.arrays
+  same_names = ap (λ (c : CoreProgram). c.arrays) same
 
   pub same_eval : (m : Arrays) (k : List ℕ) → eval p.body m k ≡ eval q.body m k
   same_eval m k = by_core p.body m k ∙ (ap (λ (c : CoreProgram). core_eval c.body m k) same ∙ sym (by_core q.body m k))
@@ -95,7 +95,7 @@ module _ (p q : Program) (same : core_program p ≡ core_program q) where
         inl (
           h.0,
           subst (λ fields. one_big_switch q.body zero_arrays (packets fields) ≡ Some h.0) same_fields (sym (same_switch (packets p.fields) zero_arrays) ∙ h.1),
-          subst (λ fields. EndsAsRead fields q.vars (spelled fields file).stop h.0 ending text) same_fields
+          subst (λ fields. EndsAsRead fields q.arrays (spelled fields file).stop h.0 ending text) same_fields
               (subst (λ names. EndsAsRead p.fields names (spelled p.fields file).stop h.0 ending text) same_names h.2),
         )
     same_report (inr h) =

@@ -129,25 +129,25 @@ module _ (p q : Program) (same : core_program p ≡ core_program q) where
   same_tied s t h = tie p.body q.body (λ a b d. transport (same_depends a b) d) s t h
 
   -- the groups of the one are those of the other
-  pub grouped : (g : Grouping) → IsGrouping p.body (length p.vars) g → IsGrouping q.body (length q.vars) g
+  pub grouped : (g : Grouping) → IsGrouping p.body (length p.arrays) g → IsGrouping q.body (length q.arrays) g
   grouped g h =
-      subst (λ (vs : List (List ℕ)). IsGrouping q.body (length vs) g) (ap (λ (c : CoreProgram). c.vars) same)
-      (same_grouping p.body q.body (λ s t d. transport (same_depends s t) d) (λ s t d. transport (sym (same_depends s t)) d) (length p.vars) g h)
+      subst (λ (vs : List (List ℕ)). IsGrouping q.body (length vs) g) (ap (λ (c : CoreProgram). c.arrays) same)
+      (same_grouping p.body q.body (λ s t d. transport (same_depends s t) d) (λ s t d. transport (sym (same_depends s t)) d) (length p.arrays) g h)
 
   -- so are their ranks
-  pub ranked : (order : List ℕ) → IsRank p.body (length p.vars) order → IsRank q.body (length q.vars) order
+  pub ranked : (order : List ℕ) → IsRank p.body (length p.arrays) order → IsRank q.body (length q.arrays) order
   ranked order h =
-      subst (λ (vs : List (List ℕ)). IsRank q.body (length vs) order) (ap (λ (c : CoreProgram). c.vars) same)
-      (same_order p.body q.body (λ s t d. transport (same_depends s t) d) (λ s t d. transport (sym (same_depends s t)) d) (length p.vars) order h)
+      subst (λ (vs : List (List ℕ)). IsRank q.body (length vs) order) (ap (λ (c : CoreProgram). c.arrays) same)
+      (same_order p.body q.body (λ s t d. transport (same_depends s t) d) (λ s t d. transport (sym (same_depends s t)) d) (length p.arrays) order h)
 
-  pub ranked_in : (order : List ℕ) (rank : ℕ → ℕ) → IsRankIn p.body (length p.vars) order rank → IsRankIn q.body (length q.vars) order rank
+  pub ranked_in : (order : List ℕ) (rank : ℕ → ℕ) → IsRankIn p.body (length p.arrays) order rank → IsRankIn q.body (length q.arrays) order rank
   ranked_in order rank h =
-      subst (λ (vs : List (List ℕ)). IsRankIn q.body (length vs) order rank) (ap (λ (c : CoreProgram). c.vars) same)
-      (same_ranks p.body q.body (λ s t d. transport (same_depends s t) d) (λ s t d. transport (sym (same_depends s t)) d) (length p.vars) order rank h)
+      subst (λ (vs : List (List ℕ)). IsRankIn q.body (length vs) order rank) (ap (λ (c : CoreProgram). c.arrays) same)
+      (same_ranks p.body q.body (λ s t d. transport (same_depends s t) d) (λ s t d. transport (sym (same_depends s t)) d) (length p.arrays) order rank h)
 
   pub same_text : (text : List ℕ) → IsTextOf p text → IsTextOf q text
   same_text text h =
-      let names = ap (λ (c : CoreProgram). c.vars) same in
+      let names = ap (λ (c : CoreProgram). c.arrays) same in
       let to = λ (s t : ℕ) (d : Depends p.body s t). transport (same_depends s t) d in
       let from = λ (s t : ℕ) (d : Depends q.body s t). transport (sym (same_depends s t)) d in
       let each = h.dependencies.each in

@@ -4,7 +4,7 @@ use Rattle.std.specs.Prelude.{IsErrOf}
 use Rattle.snap_core.specs.declared.program.Which.TheVariants.{Bytes}
 use Rattle.snap_io.specs.Causes.{Rose}
 use Rattle.snap_io.specs.Sinks.{AppendsSome}
-use Rattle.snap_trace.specs.declared.fault.TraceFault.TheVariants as run
+use Rattle.snap_report.specs.declared.fault.TraceFault.TheVariants as run
 use Rattle.snap_runs.specs.Schedules.{WritesScheduleBy}
 use Rattle.snap_runs.specs.declared.schedule.ScheduleFault.TheVariants as order
 use Rattle.snap_cli.specs.Causes.{HasCauses}

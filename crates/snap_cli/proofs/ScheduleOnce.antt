@@ -4,7 +4,7 @@ use Rattle.snap_runs.specs.Laws.{RefusedLinesAreOne, ReportedOrRefused, Schedule
 use Rattle.snap_runs.specs.Schedules.{AreBothRead, IsReadWhole}
 use Rattle.snap_cli.specs.declared.refusal.Refusal.TheVariants.{Schedule}
 use Rattle.snap_cli.specs.Schedule.{SchedulesTo, StopsAtLength, StopsAtLine, StopsAtPackets}
-use Rattle.snap_cli.proofs.Shared.{ended, Ending, EndsBySchedule, HasScheduleReport, IsInForm, IsRunEnding, lines_of, refused, RefusesScheduleLine, spelled_for, Tables, TraceFault}
+use Rattle.snap_cli.proofs.Shared.{ended, Ending, EndsBySchedule, HasScheduleReport, IsWellFormed, IsRunEnding, lines_of, refused, RefusesScheduleLine, spelled_for, Tables, TraceFault}
 use Rattle.snap_cli.proofs.ObsOnce.{AreOne, run_ends_once}
 use Rattle.snap_cli.proofs.Pipeline.{cases_once}
 
@@ -50,7 +50,7 @@ module _ (t : Tables) (file text : List ℕ) (Reports : List ℕ → Type 0) (Re
       cases_once (λ h k. (h.0 ∙ sym k.0, one.report a b h.1 k.1)) (λ h k. reported_apart a f h.1 k.1) (λ h k. reported_apart b e h.1 k.1) (λ h k. (refused_once e f h.1 k.1, h.0 ∙ sym k.0))
 
 -- of a run without turns
-module _ (t : Tables) (form : IsInForm t) (hops : Bool) (file text : List ℕ) (reports : ScheduleReportsAreOne) (lines : RefusedLinesAreOne) (apart : ReportedOrRefused) where
+module _ (t : Tables) (form : IsWellFormed t) (hops : Bool) (file text : List ℕ) (reports : ScheduleReportsAreOne) (lines : RefusedLinesAreOne) (apart : ReportedOrRefused) where
   schedule_is_one : IsOne t file text (HasScheduleReport t hops file text) (RefusesScheduleLine t file text)
   schedule_is_one = record {
     whole = λ report h. h.0;

@@ -13,29 +13,29 @@ pub use Rattle.snap_core.specs.Inputs.{IsPacket}
 pub use Rattle.snap_core.specs.Listing.{HasOneListing}
 pub use Rattle.snap_core.specs.Switch.{Switched}
 pub use Rattle.snap_io.specs.Files.{Files, file_of}
-pub use Rattle.snap_words.specs.Commands.{Command, Order, changes, compile, in_turn, plain, rounds, schedule, trace}
+pub use Rattle.snap_words.specs.Commands.{Command, Order, changes, compile, in_order, plain, rounds, schedule, trace}
 pub use Rattle.snap_names.specs.Declarations.{core_program}
-pub use Rattle.snap_trace.specs.declared.fault.TraceFault.{TraceFault}
-pub use Rattle.snap_trace.specs.OneSwitch.{RunEnding}
-pub use Rattle.snap_trace.specs.Spelled.{Spelled, Stop, ended, refused, spelled}
+pub use Rattle.snap_report.specs.declared.fault.TraceFault.{TraceFault}
+pub use Rattle.snap_report.specs.OneSwitch.{RunEnding}
+pub use Rattle.snap_report.specs.Spelled.{Spelled, Stop, ended, refused, spelled}
 pub use Rattle.snap_dep.specs.Ranks.{Grouping, IsGrouping}
-pub use Rattle.snap_topo.specs.declared.topology.Topology.{Topology}
-pub use Rattle.snap_topo.specs.Spells.{document}
-pub use Rattle.snap_route.specs.Tables.{AreRoutes, IsUnreachable, Table}
+pub use Rattle.snap_topology.specs.declared.topology.Topology.{Topology}
+pub use Rattle.snap_topology.specs.Spells.{document}
+pub use Rattle.snap_topology.specs.Tables.{AreRoutes, IsUnreachable, Table}
 pub use Rattle.snap_rows.specs.declared.tables.Tables.{Tables}
-pub use Rattle.snap_rows.specs.Form.{IsInForm}
+pub use Rattle.snap_rows.specs.Form.{IsWellFormed}
 pub use Rattle.snap_tables.specs.Lines.{IsRead}
 pub use Rattle.snap_tables.specs.ReadBack.{IsReadBack}
-pub use Rattle.snap_gen.specs.Faithful.{Faithful, IsPacketOf}
+pub use Rattle.snap_faithful.specs.Faithful.{Faithful, IsPacketOf}
 pub use Rattle.snap_runs.specs.declared.schedule.ScheduleFault.{ScheduleFault}
 pub use Rattle.snap_runs.specs.Laws.{SpelledForIsSpelled, SpelledPacketsFit}
 pub use Rattle.snap_runs.specs.Plain.{IsPlainReport, spelled_for}
 pub use Rattle.snap_runs.specs.Schedules.{HasScheduleReport, RefusesScheduleLine, lines_of}
-pub use Rattle.snap_whole.specs.OneSwitch.{ports_of}
-pub use Rattle.snap_move.specs.declared.change.Change.{Change}
-pub use Rattle.snap_move.specs.declared.later.Later.{Later}
-pub use Rattle.snap_move.specs.Changing.{in_force}
-pub use Rattle.snap_move.specs.Files.{spelled_under}
+pub use Rattle.snap_refinement.specs.OneSwitch.{ports_of}
+pub use Rattle.snap_runs.specs.declared.change.Change.{Change}
+pub use Rattle.snap_runs.specs.declared.later.Later.{Later}
+pub use Rattle.snap_runs.specs.Changing.{in_force}
+pub use Rattle.snap_runs.specs.ChangedFiles.{spelled_under}
 pub use Rattle.snap_cli.specs.declared.refusal.Refusal.{Refusal}
 pub use Rattle.snap_cli.specs.declared.refusal.Refusal.TheVariants.{Limit, NoMemory, Packets, Race, Read, ReadChange, VersionOne, Write}
 pub use Rattle.snap_cli.specs.Changes.{ChangedTables, ChangesOf}

@@ -1,11 +1,11 @@
 -- A file is read as a program, and as a topology, exactly where it spells them.
 use Rattle.std.proofs.Common.{◌≡◌, ℕ, List, Ok, Err, inl, inr}
 use Rattle.snap_names.specs.Spells.{SpellsProgram}
-use Rattle.snap_names.proofs.InForm.{IsBounded-resolved}
+use Rattle.snap_names.proofs.WellFormed.{IsBounded-resolved}
 use Rattle.snap_names.proofs.SpelledPrograms.{SpellsProgram-read, read-SpellsProgram}
-use Rattle.snap_topo.specs.Spells.{SpellsTopology}
-use Rattle.snap_topo.proofs.AnsweredTopology.{answer-SpellsTopology}
-use Rattle.snap_topo.proofs.SpelledTopology.{SpellsTopology-answer}
+use Rattle.snap_topology.specs.Spells.{SpellsTopology}
+use Rattle.snap_topology.proofs.AnsweredTopology.{answer-SpellsTopology}
+use Rattle.snap_topology.proofs.SpelledTopology.{SpellsTopology-answer}
 use Rattle.snap_cli.proofs.Shared.{Program, ProgramOf, Refusal, Topology, TopologyOf}
 
 pub SpellsProgram-ProgramOf : (text : List ℕ) (p : Program) → ProgramOf text (Ok p) → SpellsProgram text p

@@ -6,8 +6,8 @@ use Rattle.snap_core.specs.declared.ports.PortAt.{PortAt}
 use Rattle.snap_io.specs.Lines.{Next, next_line, next_in}
 use Rattle.snap_core.specs.Ports.{port_in}
 use Rattle.snap_rows.specs.Entries.{port_at}
-use Rattle.snap_trace.specs.PacketLines.{Said, skip, inject, bad, said_by}
-use Rattle.snap_trace.specs.Spelled.{counted, spelled_behind, spelled_from, text_of, with_next, with_said}
+use Rattle.snap_report.specs.PacketLines.{Said, skip, inject, bad, said_by}
+use Rattle.snap_report.specs.Spelled.{counted, spelled_behind, spelled_from, text_of, with_next, with_said}
 use Rattle.snap_runs.specs.Plain.{at_ports}
 use Rattle.snap_runs.proofs.SpelledPackets.{said_same, at_them}
 use Rattle.snap_cli.proofs.Shared.{All, All-cons, All-head, All-nil, All-tail, count, ended, in_force, IsPacket, Later, slice_get, slice_index, Spelled, spelled, spelled_under, SpelledPacketsFit, Tables}

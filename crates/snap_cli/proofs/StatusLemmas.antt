@@ -3,20 +3,20 @@ use Rattle.std.proofs.Common.{◌≡◌, ◌⊎◌, ◌||◌, ◌==◌, ℕ, Boo
 use Rattle.std.proofs.lemmas.Bool.{and_parts, eqb-true}
 use Rattle.std.specs.Global.{Vec}
 use Rattle.std.specs.List.{list_all, list_any}
-use Rattle.snap_move.specs.declared.change.ChangesFault.{ChangesFault}
-use Rattle.snap_move.specs.declared.change.ChangesFault.TheVariants as change
-use Rattle.snap_move.specs.Lines.{changes_of}
-use Rattle.snap_place.specs.declared.placement.PlaceFault.{PlaceFault}
-use Rattle.snap_place.specs.declared.placement.PlaceFault.TheVariants as place
-use Rattle.snap_route.specs.declared.table.RouteFault.{RouteFault}
-use Rattle.snap_route.specs.declared.table.RouteFault.TheVariants as route
+use Rattle.snap_runs.specs.declared.change.ChangesFault.{ChangesFault}
+use Rattle.snap_runs.specs.declared.change.ChangesFault.TheVariants as change
+use Rattle.snap_runs.specs.ChangeLines.{changes_of}
+use Rattle.snap_placement.specs.declared.placement.PlaceFault.{PlaceFault}
+use Rattle.snap_placement.specs.declared.placement.PlaceFault.TheVariants as place
+use Rattle.snap_topology.specs.declared.table.RouteFault.{RouteFault}
+use Rattle.snap_topology.specs.declared.table.RouteFault.TheVariants as route
 use Rattle.snap_rows.specs.declared.tables.Tables.{Tables as Made}
 use Rattle.snap_runs.specs.declared.schedule.ScheduleFault.TheVariants as lined
-use Rattle.snap_seek.specs.declared.demand.DemandFault.{DemandFault}
-use Rattle.snap_seek.specs.declared.demand.DemandFault.TheVariants as seek
-use Rattle.snap_topo.specs.declared.topology.TopoFault.{TopoFault}
-use Rattle.snap_topo.specs.declared.topology.TopoFault.TheVariants as topo
-use Rattle.snap_trace.specs.declared.fault.TraceFault.TheVariants as run
+use Rattle.snap_placement.specs.declared.demand.DemandFault.{DemandFault}
+use Rattle.snap_placement.specs.declared.demand.DemandFault.TheVariants as seek
+use Rattle.snap_topology.specs.declared.topology.TopoFault.{TopoFault}
+use Rattle.snap_topology.specs.declared.topology.TopoFault.TheVariants as topo
+use Rattle.snap_report.specs.declared.fault.TraceFault.TheVariants as run
 use Rattle.snap_cli.specs.Changes.{said_changes}
 use Rattle.snap_cli.specs.ChangesSteps.{ReadsChanges}
 use Rattle.snap_cli.specs.Check.{MeetsCheck}
@@ -86,7 +86,7 @@ of-places p t table text (Ok made) h = tt
 of-places p t table text (Err NoMemory) h = refl
 of-places p t table text (Err (Read name)) h = absurd h
 of-places p t table text (Err (ReadChange name)) h = absurd h
-of-places p t table text (Err e) h = subst (RefusesWith (2 ∷ 6 ∷ 19 ∷ [])) (sym h.is) (of-demand p.vars h.fault)
+of-places p t table text (Err e) h = subst (RefusesWith (2 ∷ 6 ∷ 19 ∷ [])) (sym h.is) (of-demand p.arrays h.fault)
 
 of-placement : (arrays : List (List ℕ)) (fault : PlaceFault) → RefusesWith (2 ∷ 6 ∷ 9 ∷ 10 ∷ []) (refusal_of_placement arrays fault)
 of-placement arrays place.NoMemory = refl
@@ -99,7 +99,7 @@ of-judged p e h = absurd h
 
 of-no_tables : (p : Program) (t : Topology) (text : List ℕ) (e : Refusal)
     → SpellsPlacement p t text (Err e) ⊎ ((places : List ℕ) × SpellsPlacement p t text (Ok places) × EndsJudged p (Err e)) → RefusesWith (2 ∷ 6 ∷ 9 ∷ 10 ∷ []) e
-of-no_tables p t text e (inl h) = subst (RefusesWith (2 ∷ 6 ∷ 9 ∷ 10 ∷ [])) (sym h.2) (of-placement p.vars h.0)
+of-no_tables p t text e (inl h) = subst (RefusesWith (2 ∷ 6 ∷ 9 ∷ 10 ∷ [])) (sym h.2) (of-placement p.arrays h.0)
 of-no_tables p t text e (inr h) = of-judged p e h.2
 
 pub of-compiles : (p : Program) (t : Topology) (text : List ℕ) (on_demand : Bool) (r : Result Made Refusal) → Compiles p t text on_demand r → IfErr r (RefusesWith (2 ∷ 6 ∷ 9 ∷ 10 ∷ []))

@@ -4,13 +4,13 @@ use Rattle.std.proofs.lemmas.Bool.{cases_eq, cases_lt}
 use Rattle.std.proofs.lemmas.Grind.{same_number_lists}
 use Rattle.snap_dep.specs.Dependencies.{Depends, Tied, TiedIsEquivalence, UsesBelow}
 use Rattle.snap_dep.specs.Ranks.{HasOneRank, IsNext, IsRank, IsRankIn, rank_of}
-use Rattle.snap_dep.specs.Relations.{IsBefore, Lists}
+use Rattle.snap_dep.specs.Relations.{PrecedesPair, Lists}
 use Rattle.snap_dep.proofs.Below.{UsesBelow-fits}
 use Rattle.snap_cli.specs.Deps.{HasOneText, groups_text}
 use Rattle.snap_cli.proofs.Shared.{count, Grouping, IsGrouping, Pol, slice_index}
 use Rattle.snap_cli.proofs.Rising.{same_rising}
 
-one_way : (a b : ℕ × ℕ) → IsBefore a b → IsBefore b a → ⊥
+one_way : (a b : ℕ × ℕ) → PrecedesPair a b → PrecedesPair b a → ⊥
 one_way a b (inl l) (inl m) = omega (arith, l, m)
 one_way a b (inl l) (inr m) = let e = m.0 in omega (arith, l, e)
 one_way a b (inr l) (inl m) = let e = l.0 in omega (arith, m, e)
@@ -18,7 +18,7 @@ one_way a b (inr l) (inr m) = let x = l.1 in let y = m.1 in omega (arith, x, y)
 
 same_pairs : (R : ℕ → ℕ → Type 0) (a b : List (ℕ × ℕ)) → Lists R a → Lists R b → a ≡ b
 same_pairs R a b x y =
-    same_rising IsBefore one_way a b x.rising y.rising
+    same_rising PrecedesPair one_way a b x.rising y.rising
     (λ z c. (y.each z.0 z.1).1 ((x.each z.0 z.1).0 c)) (λ z c. (x.each z.0 z.1).1 ((y.each z.0 z.1).0 c))
 
 module _ (p : Pol) (n : ℕ) (tied : TiedIsEquivalence p) (one : HasOneRank p n) where
@@ -60,7 +60,7 @@ module _ (p : Pol) (n : ℕ) (tied : TiedIsEquivalence p) (one : HasOneRank p n)
 
 pub one_text : ((p : Pol) → TiedIsEquivalence p) → ((p : Pol) (n : ℕ) → UsesBelow n p → HasOneRank p n) → HasOneText
 one_text tied one p bounded a b x y =
-    let n = length p.vars in
+    let n = length p.arrays in
     let pairs = same_pairs (Depends p.body) x.pairs y.pairs x.dependencies y.dependencies in
-    let groups = same_groups p.body n (tied p.body) (one p.body n (UsesBelow-fits (count p.fields) n p.body bounded.fits)) p.vars x.grouping y.grouping x.groups y.groups in
+    let groups = same_groups p.body n (tied p.body) (one p.body n (UsesBelow-fits (count p.fields) n p.body bounded.fits)) p.arrays x.grouping y.grouping x.groups y.groups in
     x.is ∙ rw (pairs, groups) (sym y.is)

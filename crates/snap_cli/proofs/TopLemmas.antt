@@ -9,19 +9,19 @@ use Rattle.snap_words.specs.Commands.{command_of, obs, routes, demo}
 use Rattle.snap_cli.specs.Answers.{MeetsWords}
 use Rattle.snap_cli.specs.declared.refusal.Refusal.TheVariants.{Usage}
 use Rattle.snap_cli.specs.Causes.{HasCauses, IsReadOf}
-use Rattle.snap_cli.specs.Deserved.{Tells}
+use Rattle.snap_cli.specs.Deserved.{WritesMessage}
 use Rattle.snap_io.specs.Causes.{Rose}
 use Rattle.snap_cli.specs.Statuses.{CanAnswer}
-use Rattle.snap_cli.proofs.Shared.{Appends, Appends-nil, Command, compile, Ending, Files, in_turn, MayPrecede, Meets, NoMemory, Read, ReadChange, Refusal, status_of, trace}
+use Rattle.snap_cli.proofs.Shared.{Appends, Appends-nil, Command, compile, Ending, Files, in_order, MayPrecede, Meets, NoMemory, Read, ReadChange, Refusal, status_of, trace}
 
 pub tells : {E : Type 0} (before now : ℕ) (old new : Option (List ℕ)) (message : List ℕ) (r : Result (Unit {0}) E)
-    → OnOk r (Appends old new message) → OnErr r (AppendsPart old new message) → HasCause before now r → Tells before now old new message
+    → OnOk r (Appends old new message) → OnErr r (AppendsPart old new message) → HasCause before now r → WritesMessage before now old new message
 tells before now old new message (Ok u) ok err cause =
     record { part = (length message, subst (Appends old new) (sym (take_all (length message) message (omega arith))) ok); whole = inr ok }
 tells before now old new message (Err e) ok err cause = record { part = err; whole = inl cause.failed }
 
 -- nothing is told
-pub quiet : (count : ℕ) (taken : Option (List ℕ)) → Tells count count taken taken []
+pub quiet : (count : ℕ) (taken : Option (List ℕ)) → WritesMessage count count taken taken []
 quiet count taken = record { part = (0, Appends-nil taken); whole = inr (Appends-nil taken) }
 
 -- the file of which a status 2 tells
@@ -55,7 +55,7 @@ meets-short (Some files) words out ending is = meets_any files out (command_of w
 
 -- no command ends as words of no form do
 never_usage : (command : Command) → CanAnswer command 1 → ⊥
-never_usage (trace tables packets hops (in_turn None)) can = cc
+never_usage (trace tables packets hops (in_order None)) can = cc
 never_usage command can = cc
 
 -- so 1 is answered to such words alone

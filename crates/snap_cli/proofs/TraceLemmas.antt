@@ -2,7 +2,7 @@
 use Rattle.std.proofs.Common.{◌≡◌, ◌≤◌, ℕ, Bool, List, [], Option, Result, Ok, Err, length, refl, sym, ap, subst, inl, inr}
 use Rattle.snap_tables.specs.declared.fault.TablesFault.{TablesFault}
 use Rattle.snap_tables.specs.declared.fault.TablesFault.TheVariants as tables
-use Rattle.snap_trace.specs.declared.fault.TraceFault.TheVariants as run
+use Rattle.snap_report.specs.declared.fault.TraceFault.TheVariants as run
 use Rattle.snap_runs.specs.Plain.{IsTrace, WritesTrace}
 use Rattle.snap_runs.specs.Schedules.{WritesSchedule}
 use Rattle.snap_words.specs.declared.command.Order.{Order as Given}
@@ -15,7 +15,7 @@ use Rattle.snap_cli.specs.Trace.{EndsTrace, IsTraceText}
 use Rattle.snap_cli.specs.TraceSteps.{LoadsTables, MeetsOrder, ReadsTables, refusal_of_tables}
 use Rattle.snap_cli.proofs.Shared.{Appends, Bor, Command, Ending, ending_of_run, Ends, file_of, Files, HasScheduleReport, IsRead, IsRunEnding, IsText, IsTooLong, Limit, MayPrecedeRead, Meets, Order, Packets, plain, Refusal, RefusesScheduleLine, RunEnding, schedule, ScheduleFault, Tables, TablesOf, trace}
 use Rattle.snap_cli.proofs.ChangesLemmas.{meets-changes}
-use Rattle.snap_cli.proofs.InTurnLemmas.{meets-in_turn}
+use Rattle.snap_cli.proofs.InOrderLemmas.{meets-in_order}
 use Rattle.snap_cli.proofs.RoundsLemmas.{meets-by_rounds}
 use Rattle.snap_cli.proofs.RefusedBy.{by-map, meets-by}
 use Rattle.snap_cli.proofs.ScheduleLemmas.{EndsSo, meets-scheduled}
@@ -90,7 +90,7 @@ meets-order files name packets hops given.Plain t spelled old new e m =
 meets-order files name packets hops (given.Schedule lines) t spelled old new e m =
     subst (λ x. Meets files (trace name packets.now hops (schedule lines.now)) x old new) (sym m.2) (meets-schedule files name packets lines hops t spelled old new m.0 m.1)
 meets-order files name packets hops (given.Changes lines) t spelled old new e m = meets-changes files name packets lines.now hops t spelled old new e m
-meets-order files name packets hops (given.InTurn lines) t spelled old new e m = meets-in_turn files name packets hops t spelled old new lines e m
+meets-order files name packets hops (given.InOrder lines) t spelled old new e m = meets-in_order files name packets hops t spelled old new lines e m
 meets-order files name packets hops (given.Rounds workers) t spelled old new e m = meets-by_rounds files name packets hops workers.value t spelled old new e m
 
 pub meets-refused : (files : Files) (name packets : List ℕ) (hops : Bool) (order : Order) (out : Option (List ℕ)) (e : Refusal) → LoadsTables name (file_of files name) (Err e)

@@ -4,12 +4,12 @@ use Rattle.snap_tables.specs.Exact.{ReadsOneWay}
 use Rattle.snap_runs.specs.Laws.{PlainBlocksAreOne, PlainReportsAreOne, RefusedLinesAreOne, ReportedOrRefused, ScheduleReportsAreOne}
 use Rattle.snap_runs.specs.Plain.{ArePlainBlocks, EndsAsRead, IsTrace}
 use Rattle.snap_order.specs.OneRounds.{RoundReportsAreOne}
-use Rattle.snap_move.specs.Laws.{ChangedBlocksAreOne, ChangedReportsAreOne}
+use Rattle.snap_refinement.specs.ChangeLaws.{ChangedBlocksAreOne, ChangedReportsAreOne}
 use Rattle.snap_cli.specs.Laws.{IsSameText, TracesAs}
 use Rattle.snap_cli.specs.Trace.{IsRunText, NetworkRunsTo}
-use Rattle.snap_cli.proofs.Shared.{Appends, changes, ended, Ending, file_of, Files, in_turn, IsDue, IsExact, IsFailure, IsInForm, IsPlainReport, IsRunEnding, Order, plain, refused, rounds, RunEnding, schedule, Spelled, spelled_for, status_of, Stop, Tables, TablesOf, trace}
+use Rattle.snap_cli.proofs.Shared.{Appends, changes, ended, Ending, file_of, Files, in_order, IsDue, IsExact, IsFailure, IsWellFormed, IsPlainReport, IsRunEnding, Order, plain, refused, rounds, RunEnding, schedule, Spelled, spelled_for, status_of, Stop, Tables, TablesOf, trace}
 use Rattle.snap_cli.proofs.ChangesOnce.{changes_once, changes_text_once}
-use Rattle.snap_cli.proofs.InTurnOnce.{TurnsAreOne, in_turn_once, in_turn_text, in_turn_text_once, read_once}
+use Rattle.snap_cli.proofs.InOrderOnce.{TurnsAreOne, in_order_once, in_order_text, in_order_text_once, read_once}
 use Rattle.snap_cli.proofs.ObsOnce.{AreOne, run_once}
 use Rattle.snap_cli.proofs.OneTables.{one_tables}
 use Rattle.snap_cli.proofs.Pipeline.{Agree, past}
@@ -29,7 +29,7 @@ pub record RunsAreOne : Type 0 where
   pub turns : TurnsAreOne
   pub by_rounds : RoundReportsAreOne
 
-module _ (one : RunsAreOne) (files : Files) (t : Tables) (form : IsInForm t) (packets : List ℕ) (hops : Bool) where
+module _ (one : RunsAreOne) (files : Files) (t : Tables) (form : IsWellFormed t) (packets : List ℕ) (hops : Bool) where
   traced_once : AreOne (IsTrace t hops (file_of files packets))
   traced_once =
       let read = spelled_for t (file_of files packets) in
@@ -40,14 +40,14 @@ module _ (one : RunsAreOne) (files : Files) (t : Tables) (form : IsInForm t) (pa
   network_once plain = run_once (IsTrace t hops (file_of files packets)) traced_once
   network_once (schedule name) = schedules_once t form hops (file_of files packets) (file_of files name) one.schedules one.lines one.apart
   network_once (changes name) = changes_once one.read one.changed one.parts files t form packets hops name
-  network_once (in_turn lines) = in_turn_once one.turns files t form packets hops lines
+  network_once (in_order lines) = in_order_once one.turns files t form packets hops lines
   network_once (rounds workers) = by_rounds_once one.by_rounds t form hops files packets
 
   pub run_text_once : (order : Order) → Agree ◌≡◌ (IsRunText files t packets hops order) (IsRunText files t packets hops order)
   run_text_once plain = λ a b h k. (traced_once a b h.0 k.0 h.1 k.1).1
   run_text_once (schedule name) = λ a b h k. (network_once (schedule name) a b h.0 k.0 h.1 k.1).1
   run_text_once (changes name) = changes_text_once one.read one.changed one.parts files t form packets hops name
-  run_text_once (in_turn lines) = in_turn_text_once one.turns files t form packets hops lines
+  run_text_once (in_order lines) = in_order_text_once one.turns files t form packets hops lines
   run_text_once (rounds workers) = λ a b h k. (network_once (rounds workers) a b h.0 k.0 h.1 k.1).1
 
 -- ---- what a call did that answers what is due
@@ -68,7 +68,7 @@ module _ (one : ReadsOneWay) (files : Files) (tables packets : List ℕ) (hops :
   text_of (schedule name) e x h = (e, h)
   text_of (changes name) e x (inl h) = inl (h.0, h.1, h.3)
   text_of (changes name) e x (inr h) = inr (h.0, h.1, (h.2.0, h.2.1))
-  text_of (in_turn lines) e x h = in_turn_text files t packets hops lines e x h
+  text_of (in_order lines) e x h = in_order_text files t packets hops lines e x h
   text_of (rounds workers) e x h = (e, h)
 
   -- what is due is how the run ends, and its text

@@ -1,6 +1,6 @@
 -- What is compiled and then traced is what one big switch does.
 use Rattle.std.proofs.Common.{◌≡◌, ◌⊎◌, ℕ, Bool, List, [], Some, Ok, Err, refl, sym, ◌∙◌, ap, subst, inl, inr, ⊎_elim, arith}
-use Rattle.snap_trace.specs.declared.fault.TraceFault.TheVariants as run
+use Rattle.snap_report.specs.declared.fault.TraceFault.TheVariants as run
 use Rattle.snap_tables.specs.Text.{text as tables_text}
 use Rattle.snap_cli.specs.declared.refusal.Refusal.TheVariants.{Undefined}
 use Rattle.snap_cli.specs.Compile.{IsCompiled, version_of}

@@ -6,17 +6,17 @@ use Rattle.snap_core.specs.declared.program.Field.{Field}
 use Rattle.snap_core.specs.declared.program.Program.{Program}
 use Rattle.snap_io.specs.Causes.{Rose}
 use Rattle.snap_io.specs.Files.{Files, file_of}
-use Rattle.snap_topo.specs.declared.topology.Topology.{Topology}
+use Rattle.snap_topology.specs.declared.topology.Topology.{Topology}
 use Rattle.snap_rows.specs.declared.tables.Tables.{Tables}
 use Rattle.snap_rows.specs.Network.{Happening, Net}
-use Rattle.snap_trace.specs.Spelled.{ended, spelled}
+use Rattle.snap_report.specs.Spelled.{ended, spelled}
 use Rattle.snap_runs.specs.Plain.{spelled_for}
 use Rattle.snap_runs.specs.Schedules.{Obeys, lines_of}
-use Rattle.snap_whole.specs.OneSwitch.{ports_of}
-use Rattle.snap_move.specs.declared.change.Change.{Change}
-use Rattle.snap_order.specs.Ordered.{Ordered, Turn}
+use Rattle.snap_refinement.specs.OneSwitch.{ports_of}
+use Rattle.snap_runs.specs.declared.change.Change.{Change}
+use Rattle.snap_order.specs.Ordered.{Ordered, OrderedHappening}
 use Rattle.snap_order.specs.Runs as turns
-use Rattle.snap_words.specs.Commands.{Command, Order, changes, command_of, compile, in_turn, plain, rounds, schedule, trace}
+use Rattle.snap_words.specs.Commands.{Command, Order, changes, command_of, compile, in_order, plain, rounds, schedule, trace}
 use Rattle.snap_cli.specs.Answers.{Answers}
 use Rattle.snap_cli.specs.Changes.{ChangesOf}
 use Rattle.snap_cli.specs.Equal.{AreDeclaredAlike}
@@ -70,9 +70,9 @@ pub record NamePorts (fields : List Field) (ports : ℕ → List ℕ) (packets :
 abbrev pub LeadToEnd : Tables → (ks lines : List (List ℕ)) → Type 0
 LeadToEnd t ks lines = (s : Net) × (hs : List Happening) × Obeys t ks lines [] s hs × (s.flying ≡ [])
 
--- the same in turn
-abbrev pub LeadToEndInTurn : Tables → (ks lines : List (List ℕ)) → Type 0
-LeadToEndInTurn t ks lines = (s : Ordered) × (us : List Turn) × turns.Obeys t ks lines [] s us × (s.net.flying ≡ [])
+-- the same in order
+abbrev pub LeadToEndInOrder : Tables → (ks lines : List (List ℕ)) → Type 0
+LeadToEndInOrder t ks lines = (s : Ordered) × (us : List OrderedHappening) × turns.Obeys t ks lines [] s us × (s.net.flying ≡ [])
 
 -- the schedule isn't too long, and its lines lead to an end in the network of the tables of a file
 pub record CanBeDone (Lead : Tables → (ks lines : List (List ℕ)) → Type 0) (files : Files) (tables packets lines : List ℕ) : Type 0 where
@@ -80,10 +80,10 @@ pub record CanBeDone (Lead : Tables → (ks lines : List (List ℕ)) → Type 0)
   pub lead : (t : Tables) → TablesOf (file_of files tables) (Ok t)
       → Lead t (spelled_for t (file_of files packets)).packets (lines_of (file_of files lines))
 
--- the schedule of an order in turn, if it has one, can be done
+-- the schedule of an order in order, if it has one, can be done
 abbrev pub TurnsCanBeDone : Files → (tables packets : List ℕ) → Option (List ℕ) → Type 0
 TurnsCanBeDone files tables packets None = Unit {0}
-TurnsCanBeDone files tables packets (Some lines) = CanBeDone LeadToEndInTurn files tables packets lines
+TurnsCanBeDone files tables packets (Some lines) = CanBeDone LeadToEndInOrder files tables packets lines
 
 -- the files of the order, if it has some, can be done with what `compile` wrote. Packets take turns in tables without `--on-demand`
 -- alone. The files of changes have a law of their own
@@ -91,7 +91,7 @@ abbrev pub OrderCanBeDone : (on_demand : Bool) → Files → (tables packets : L
 OrderCanBeDone on_demand files tables packets plain = Unit {0}
 OrderCanBeDone on_demand files tables packets (schedule lines) = CanBeDone LeadToEnd files tables packets lines
 OrderCanBeDone on_demand files tables packets (changes lines) = ⊥
-OrderCanBeDone on_demand files tables packets (in_turn lines) = (on_demand ≡ false) × TurnsCanBeDone files tables packets lines
+OrderCanBeDone on_demand files tables packets (in_order lines) = (on_demand ≡ false) × TurnsCanBeDone files tables packets lines
 OrderCanBeDone on_demand files tables packets (rounds workers) = on_demand ≡ false
 
 -- **A call of `compile` answered 0. Where all lines of a packets file are in form and each packet names a port of the topology,

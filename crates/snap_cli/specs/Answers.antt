@@ -6,7 +6,7 @@ use Rattle.snap_io.specs.Files.{Files}
 use Rattle.snap_words.specs.Commands.{command_of, demo}
 use Rattle.snap_cli.specs.declared.refusal.Refusal.TheVariants.{Usage, NoMemory}
 use Rattle.snap_cli.specs.Causes.{HasCauses}
-use Rattle.snap_cli.specs.Deserved.{Meets, Tells}
+use Rattle.snap_cli.specs.Deserved.{Meets, WritesMessage}
 use Rattle.snap_cli.specs.Refusals.{Ending, status_of, message_of}
 
 -- Words of no command's form are usage, and nothing goes out. Memory may be short before they are read.
@@ -28,4 +28,4 @@ pub record Answers (words : List (List ℕ)) (told : Option Files) (status : ℕ
   pub status_is : status ≡ status_of ending
   pub out : IfSome told (λ files. MeetsWords files words ending out_old out_new)
   pub causes : HasCauses shelf_before shelf_now out_before out_now ending
-  pub err : Tells err_before err_now err_old err_new (message_of ending)
+  pub err : WritesMessage err_before err_now err_old err_new (message_of ending)

@@ -4,14 +4,14 @@ use Rattle.std.specs.List.{All}
 use Rattle.snap_core.specs.declared.program.Which.TheVariants.{Bytes}
 use Rattle.snap_io.specs.Files.{Files, file_of}
 use Rattle.snap_rows.specs.declared.tables.Tables.{Tables}
-use Rattle.snap_trace.specs.OneSwitch.{RunEnding}
-use Rattle.snap_move.specs.declared.change.Change.{Change}
-use Rattle.snap_move.specs.declared.change.ChangesFault.{ChangesFault}
-use Rattle.snap_move.specs.declared.change.ChangesFault.TheVariants as fault
-use Rattle.snap_move.specs.declared.later.Later.{Later}
-use Rattle.snap_move.specs.Files.{AreChangedTraceBlocks, IsChangedTrace}
-use Rattle.snap_move.specs.Lines.{changes_of}
-use Rattle.snap_move.specs.Shapes.{HaveOneShape}
+use Rattle.snap_report.specs.OneSwitch.{RunEnding}
+use Rattle.snap_runs.specs.declared.change.Change.{Change}
+use Rattle.snap_runs.specs.declared.change.ChangesFault.{ChangesFault}
+use Rattle.snap_runs.specs.declared.change.ChangesFault.TheVariants as fault
+use Rattle.snap_runs.specs.declared.later.Later.{Later}
+use Rattle.snap_runs.specs.ChangedFiles.{AreChangedTraceBlocks, IsChangedTrace}
+use Rattle.snap_runs.specs.ChangeLines.{changes_of}
+use Rattle.snap_runs.specs.Shapes.{HaveOneShape}
 use Rattle.snap_cli.specs.declared.refusal.Refusal.{Refusal}
 use Rattle.snap_cli.specs.declared.refusal.Refusal.TheVariants.{Changes, Limit, NoMemory}
 use Rattle.snap_cli.specs.Obs.{IsRunEnding}

@@ -4,11 +4,11 @@ use Rattle.std.specs.Borrow.{Bor}
 use Rattle.std.specs.declared.option.Option.{Option}
 use Rattle.snap_io.specs.Files.{Files, file_of}
 use Rattle.snap_rows.specs.declared.tables.Tables.{Tables}
-use Rattle.snap_trace.specs.OneSwitch.{RunEnding}
-use Rattle.snap_move.specs.declared.change.Change.{Change}
-use Rattle.snap_move.specs.declared.later.Later.{Later}
-use Rattle.snap_move.specs.Files.{WritesChanged}
-use Rattle.snap_move.specs.Lines.{changes_of}
+use Rattle.snap_report.specs.OneSwitch.{RunEnding}
+use Rattle.snap_runs.specs.declared.change.Change.{Change}
+use Rattle.snap_runs.specs.declared.later.Later.{Later}
+use Rattle.snap_runs.specs.ChangedFiles.{WritesChanged}
+use Rattle.snap_runs.specs.ChangeLines.{changes_of}
 use Rattle.std.specs.Global.{Vec}
 use Rattle.snap_cli.specs.declared.refusal.Refusal.{Refusal}
 use Rattle.snap_cli.specs.Changes.{ChangedTables, ChangesOf, IsLater, IsReachedByChanges, IsReachedChange, LaterOf, RefusesLater, said_changes}

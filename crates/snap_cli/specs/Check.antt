@@ -8,8 +8,8 @@ use Rattle.snap_core.specs.Fields.{count}
 use Rattle.snap_core.specs.Meaning.{eval}
 use Rattle.snap_core.specs.Inputs.{IsStore, IsPacket}
 use Rattle.snap_dep.specs.Ranks.{Grouping}
-use Rattle.snap_arena.specs.declared.node.Node.{Node}
-use Rattle.snap_fdd.specs.declared.leaf.Leaf.{Leaf}
+use Rattle.snap_diagrams.specs.declared.node.Node.{Node}
+use Rattle.snap_diagrams.specs.declared.leaf.Leaf.{Leaf}
 use Rattle.snap_build.specs.Whole.{IsRaceOf, IsWhole}
 use Rattle.snap_io.specs.Files.{Files, file_of}
 use Rattle.snap_io.specs.Sinks.{AppendsPart}

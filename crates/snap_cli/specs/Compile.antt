@@ -2,10 +2,10 @@
 use Rattle.std.specs.Prelude.{◌≡◌, ◌⊎◌, ℕ, Bool, true, false, List, [], Ok, Err}
 use Rattle.snap_core.specs.declared.program.Program.{Program}
 use Rattle.snap_io.specs.Files.{Files, file_of}
-use Rattle.snap_topo.specs.declared.topology.Topology.{Topology}
-use Rattle.snap_route.specs.Tables.{AreRoutes, Table}
+use Rattle.snap_topology.specs.declared.topology.Topology.{Topology}
+use Rattle.snap_topology.specs.Tables.{AreRoutes, Table}
 use Rattle.snap_rows.specs.declared.tables.Tables.{Tables}
-use Rattle.snap_gen.specs.Faithful.{Faithful}
+use Rattle.snap_faithful.specs.Faithful.{Faithful}
 use Rattle.snap_tables.specs.ReadBack.{IsReadBack}
 use Rattle.snap_tables.specs.Text.{text as tables_text}
 use Rattle.snap_cli.specs.declared.refusal.Refusal.{Refusal}

@@ -3,7 +3,7 @@ use Rattle.std.specs.Prelude.{◌⊎◌, ℕ, Bool, List, Result, Ok, Err}
 use Rattle.std.specs.declared.option.Option.{Option}
 use Rattle.snap_core.specs.declared.program.Program.{Program}
 use Rattle.snap_io.specs.Files.{Files}
-use Rattle.snap_topo.specs.declared.topology.Topology.{Topology}
+use Rattle.snap_topology.specs.declared.topology.Topology.{Topology}
 use Rattle.snap_rows.specs.declared.tables.Tables.{Tables}
 use Rattle.snap_tables.specs.Text.{text as tables_text}
 use Rattle.snap_cli.specs.declared.refusal.Refusal.{Refusal}

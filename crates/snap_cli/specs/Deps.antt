@@ -42,8 +42,8 @@ pub record IsTextOf (p : Program) (text : List ℕ) : Type 0 where
   pub pairs : List (ℕ × ℕ)
   pub dependencies : Lists (Depends p.body) pairs
   pub grouping : Grouping
-  pub groups : IsGrouping p.body (length p.vars) grouping
-  pub is : text ≡ concat (flat_map (dep_line p.vars) pairs ∷ groups_text p.vars grouping ∷ codes "end\n" ∷ [])
+  pub groups : IsGrouping p.body (length p.arrays) grouping
+  pub is : text ≡ concat (flat_map (dep_line p.arrays) pairs ∷ groups_text p.arrays grouping ∷ codes "end\n" ∷ [])
 
 -- a program has but one text
 abbrev pub HasOneText : Type 0

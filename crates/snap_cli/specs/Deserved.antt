@@ -78,6 +78,6 @@ Meets files command (Err Write) old new = AppendsSome (MayPrecede files command)
 Meets files command ending old new = Ends files command ending × ((text : List ℕ) × IsText files command text × Appends old new text)
 
 -- the whole message went out, or the sink failed and a first part did
-pub record Tells (before now : ℕ) (old new : Option (List ℕ)) (message : List ℕ) : Type 0 where
+pub record WritesMessage (before now : ℕ) (old new : Option (List ℕ)) (message : List ℕ) : Type 0 where
   pub part : AppendsPart old new message
   pub whole : Rose before now ⊎ Appends old new message

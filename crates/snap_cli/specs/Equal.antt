@@ -17,7 +17,7 @@ use Rattle.snap_cli.specs.Refusals.{Ending}
 -- equal lists of fields, and of names of arrays
 pub record AreDeclaredAlike (p q : Program) : Type 0 where
   pub fields : p.fields ≡ q.fields
-  pub vars : p.vars ≡ q.vars
+  pub arrays : p.arrays ≡ q.arrays
 
 -- declared alike, and neither races
 pub record AreComparable (p q : Program) : Type 0 where

@@ -8,29 +8,29 @@ use Rattle.snap_core.specs.Arrays.{zero_arrays}
 use Rattle.snap_io.specs.Files.{Files, file_of}
 use Rattle.snap_names.specs.Spells.{SpellsProgram}
 use Rattle.snap_dep.specs.Ranks.{IsRank}
-use Rattle.snap_topo.specs.declared.topology.Topology.{Topology}
-use Rattle.snap_topo.specs.Spells.{SpellsTopology}
-use Rattle.snap_route.specs.Walks.{IsDiameter, Linked}
+use Rattle.snap_topology.specs.declared.topology.Topology.{Topology}
+use Rattle.snap_topology.specs.Spells.{SpellsTopology}
+use Rattle.snap_topology.specs.Walks.{IsDiameter, Linked}
 use Rattle.snap_rows.specs.declared.tables.Tables.{Tables}
 use Rattle.snap_rows.specs.Happenings.{commits}
-use Rattle.snap_rows.specs.Lone.{IsLone}
+use Rattle.snap_rows.specs.SingleOwner.{IsSingleOwner}
 use Rattle.snap_rows.specs.Network.{Event, Happening, IsPlainRun, Net}
-use Rattle.snap_gen.specs.Agreement.{numbered}
-use Rattle.snap_gen.specs.Faithful.{most_hops}
-use Rattle.snap_trace.specs.Spelled.{ended, spelled}
+use Rattle.snap_faithful.specs.Agreement.{numbered}
+use Rattle.snap_faithful.specs.Faithful.{most_hops}
+use Rattle.snap_report.specs.Spelled.{ended, spelled}
 use Rattle.snap_runs.specs.declared.frames.Frames.{Frames}
 use Rattle.snap_runs.specs.declared.frames.Frames.TheVariants.{Plain, Numbered}
 use Rattle.snap_runs.specs.Plain.{entering}
 use Rattle.snap_runs.specs.Reports.{IsRunReportBy}
-use Rattle.snap_runs.specs.Schedules.{IsCalm, Obeys, lines_of}
-use Rattle.snap_whole.specs.InOrder.{IsSwitchReportIn}
-use Rattle.snap_whole.specs.Laws.{IsHopWithin}
-use Rattle.snap_whole.specs.OneSwitch.{IsSwitchReport, ports_of}
-use Rattle.snap_order.specs.Ordered.{Ordered, Turn}
+use Rattle.snap_runs.specs.Schedules.{IsSequential, Obeys, lines_of}
+use Rattle.snap_refinement.specs.InOrder.{IsSwitchReportIn}
+use Rattle.snap_refinement.specs.Laws.{IsHopWithin}
+use Rattle.snap_refinement.specs.OneSwitch.{IsSwitchReport, ports_of}
+use Rattle.snap_order.specs.Ordered.{Ordered, OrderedHappening}
 use Rattle.snap_order.specs.Ordered as turning
 use Rattle.snap_order.specs.Rounds.{GoesByRounds}
 use Rattle.snap_order.specs.Runs as turn_runs
-use Rattle.snap_words.specs.Commands.{Command, Order, changes, command_of, compile, in_turn, plain, rounds, schedule, trace}
+use Rattle.snap_words.specs.Commands.{Command, Order, changes, command_of, compile, in_order, plain, rounds, schedule, trace}
 use Rattle.snap_words.specs.Words.{is_name}
 use Rattle.snap_cli.specs.Answers.{Answers}
 use Rattle.snap_cli.specs.Compile.{AreSpelled, version_of}
@@ -70,20 +70,20 @@ pub record TellsRun (Run : Type 0) (IsReport : Run → (hops : Bool) → List �
   pub short : IsShort run
 
 -- ---- the run of packets in an order of events
--- the run in turn of packets: one after the other, or of exactly the events that lines order, to an end
-abbrev pub IsRunInTurn : Tables → List (List ℕ) → Option (List (List ℕ)) → Ordered → List Turn → Type 0
-IsRunInTurn t ks None end us = (es : List Event) × turn_runs.IsPlainRun t zero_arrays (entering ks) es end us
-IsRunInTurn t ks (Some lines) end us = turn_runs.Obeys t ks lines [] end us × (end.net.flying ≡ [])
+-- the run in order of packets: one after the other, or of exactly the events that lines order, to an end
+abbrev pub IsRunInOrder : Tables → List (List ℕ) → Option (List (List ℕ)) → Ordered → List OrderedHappening → Type 0
+IsRunInOrder t ks None end us = (es : List Event) × turn_runs.IsPlainRun t zero_arrays (entering ks) es end us
+IsRunInOrder t ks (Some lines) end us = turn_runs.Obeys t ks lines [] end us × (end.net.flying ≡ [])
 
 -- what happens to these packets in this order, to an end; changes of tables are in `Upgrades`
 abbrev pub GoesInOrder : Files → Order → Tables → List (List ℕ) → Net → List Happening → Type 0
 GoesInOrder files plain t ks end hs = (es : List Event) × IsPlainRun t zero_arrays (entering ks) es end hs
 GoesInOrder files (schedule lines) t ks end hs = Obeys t ks (lines_of (file_of files lines)) [] end hs × (end.flying ≡ [])
 GoesInOrder files (changes lines) t ks end hs = ⊥
-GoesInOrder files (in_turn lines) t ks end hs =
-    (s : Ordered) × (us : List Turn) × IsRunInTurn t ks (option_map (λ name. lines_of (file_of files name)) lines) s us × (end ≡ s.net) × (hs ≡ turning.happenings us)
+GoesInOrder files (in_order lines) t ks end hs =
+    (s : Ordered) × (us : List OrderedHappening) × IsRunInOrder t ks (option_map (λ name. lines_of (file_of files name)) lines) s us × (end ≡ s.net) × (hs ≡ turning.happenings us)
 GoesInOrder files (rounds workers) t ks end hs =
-    (s : Ordered) × (us : List Turn) × ((es : List Event) × GoesByRounds t (entering ks) (turning.begin t zero_arrays) es s us) × (end ≡ s.net) × (hs ≡ turning.happenings us)
+    (s : Ordered) × (us : List OrderedHappening) × ((es : List Event) × GoesByRounds t (entering ks) (turning.begin t zero_arrays) es s us) × (end ≡ s.net) × (hs ≡ turning.happenings us)
 
 -- the run, over the tables of this file
 pub record RunInOrder (files : Files) (order : Order) (file : List ℕ) (ks : List (List ℕ)) : Type 0 where
@@ -93,26 +93,26 @@ pub record RunInOrder (files : Files) (order : Order) (file : List ℕ) (ks : Li
   pub happenings : List Happening
   pub goes : GoesInOrder files order tables ks end happenings
 
--- in turn and by rounds the frames of hops begin with the packet's number
+-- in order and by rounds the frames of hops begin with the packet's number
 abbrev pub frames_of : Order → Frames
 frames_of plain = Plain
 frames_of (schedule lines) = Plain
 frames_of (changes lines) = Plain
-frames_of (in_turn lines) = Numbered
+frames_of (in_order lines) = Numbered
 frames_of (rounds workers) = Numbered
 
--- The packets take effect in this order of their numbers: as they come in, one after another or in turn; and by a schedule as they
--- come in where it is calm, and as they fork where the tables are lone.
+-- The packets take effect in this order of their numbers: as they come in, one after another or in order; and by a schedule as they
+-- come in where it is sequential, and as they fork where the tables are single-owner.
 abbrev pub TakeEffectIn : Files → Order → Tables → List (List ℕ) → List Happening → (numbers : List ℕ) → Type 0
 TakeEffectIn files plain t ks hs numbers = numbers ≡ numbered ks
-TakeEffectIn files (schedule lines) t ks hs numbers = (IsCalm t ks (lines_of (file_of files lines)) × (numbers ≡ numbered ks)) ⊎ (IsLone t × (numbers ≡ commits hs))
+TakeEffectIn files (schedule lines) t ks hs numbers = (IsSequential t ks (lines_of (file_of files lines)) × (numbers ≡ numbered ks)) ⊎ (IsSingleOwner t × (numbers ≡ commits hs))
 TakeEffectIn files (changes lines) t ks hs numbers = ⊥
-TakeEffectIn files (in_turn lines) t ks hs numbers = numbers ≡ numbered ks
+TakeEffectIn files (in_order lines) t ks hs numbers = numbers ≡ numbered ks
 TakeEffectIn files (rounds workers) t ks hs numbers = numbers ≡ numbered ks
 
 -- no copy makes more than (groups + 1) times the greatest distance hops, or with `--on-demand` (2 groups + 1) times
 abbrev pub MakesFewHops : Program → Topology → (on_demand : Bool) → List Happening → Type 0
-MakesFewHops p t on_demand hs = (groups : List ℕ) (d : ℕ) → IsRank p.body (length p.vars) groups → IsDiameter (Linked t.links) (length t.switches) d
+MakesFewHops p t on_demand hs = (groups : List ℕ) (d : ℕ) → IsRank p.body (length p.arrays) groups → IsDiameter (Linked t.links) (length t.switches) d
     → All (IsHopWithin (most_hops (version_of on_demand) (length groups) d)) hs
 
 -- The text tells a run of these packets in this order, over the tables of this file; and one big switch does the same with the packets in
@@ -168,9 +168,9 @@ CallsTraceAsOneSwitch = (files later : Files) (program topology placement tables
     → file_of later tables ≡ compiled → Wrote later (trace_words tables packets) report
     → TellsOneSwitch files program topology (file_of later packets) report
 
--- the schedule is calm for these packets, in the network of the tables of a file
-abbrev pub IsCalmFor : Files → (tables lines : List ℕ) → List (List ℕ) → Type 0
-IsCalmFor files tables lines ks = (t : Tables) → TablesOf (file_of files tables) (Ok t) → IsCalm t ks (lines_of (file_of files lines))
+-- the schedule is sequential for these packets, in the network of the tables of a file
+abbrev pub IsSequentialFor : Files → (tables lines : List ℕ) → List (List ℕ) → Type 0
+IsSequentialFor files tables lines ks = (t : Tables) → TablesOf (file_of files tables) (Ok t) → IsSequential t ks (lines_of (file_of files lines))
 
 -- **So it is with a schedule that injects each packet with no copy in flight.**
 abbrev pub SchedulesTraceAsOneSwitch : Type 0
@@ -178,20 +178,20 @@ SchedulesTraceAsOneSwitch = (files later : Files) (program topology placement ta
     → Did files (compile program topology placement on_demand) compiled
     → file_of later tables ≡ compiled → Did later (trace tables packets false (schedule lines)) report
     → (p : Program) × (t : Topology) × AreGiven files program topology (file_of later packets) p t
-    × (IsCalmFor later tables lines (spelled p.fields (file_of later packets)).packets → IsSwitchReport p (ports_of t) (spelled p.fields (file_of later packets)).packets report)
+    × (IsSequentialFor later tables lines (spelled p.fields (file_of later packets)).packets → IsSwitchReport p (ports_of t) (spelled p.fields (file_of later packets)).packets report)
 
 -- **So it is with `--ordered`, in the order of each schedule that can be done to an end, whatever packets overlap.**
 abbrev pub TurnsTraceAsOneSwitch : Type 0
 TurnsTraceAsOneSwitch = (files later : Files) (program topology placement tables packets : List ℕ) (on_demand : Bool) (lines : Option (List ℕ)) (compiled report : List ℕ)
     → Did files (compile program topology placement on_demand) compiled
-    → file_of later tables ≡ compiled → Did later (trace tables packets false (in_turn lines)) report
+    → file_of later tables ≡ compiled → Did later (trace tables packets false (in_order lines)) report
     → TellsOneSwitch files program topology (file_of later packets) report
 
 -- **What it writes is, byte for byte, what `trace` of the same tables and packets writes without `--ordered`, one packet after the other.**
 abbrev pub TurnsTraceAsPlain : Type 0
 TurnsTraceAsPlain = (files later : Files) (program topology placement tables packets : List ℕ) (on_demand : Bool) (lines : Option (List ℕ)) (compiled report other : List ℕ)
     → Did files (compile program topology placement on_demand) compiled
-    → file_of later tables ≡ compiled → Did later (trace tables packets false (in_turn lines)) report → Did later (trace tables packets false plain) other
+    → file_of later tables ≡ compiled → Did later (trace tables packets false (in_order lines)) report → Did later (trace tables packets false plain) other
     → report ≡ other
 
 -- **So it is with `--ordered --workers`, for every number of workers.**
@@ -219,9 +219,9 @@ RoundsTraceAlike = (later : Files) (tables packets : List ℕ) (hops : Bool) (wo
 abbrev pub StandAtOne : Files → (program topology placement : List ℕ) → Type 0
 StandAtOne files program topology placement = (p : Program) (t : Topology) (places : List ℕ) → AreSpelled files program topology placement p t places → (w : ℕ) × All (λ x. x ≡ w) places
 
--- the tables of a file are lone
-abbrev pub AreLone : Files → (tables : List ℕ) → Type 0
-AreLone files tables = (t : Tables) → TablesOf (file_of files tables) (Ok t) → IsLone t
+-- the tables of a file are single-owner
+abbrev pub AreSingleOwner : Files → (tables : List ℕ) → Type 0
+AreSingleOwner files tables = (t : Tables) → TablesOf (file_of files tables) (Ok t) → IsSingleOwner t
 
 -- The text tells the run of exactly the events that the lines order; and one big switch does the same with the packets in the order in
 -- which they fork in it.
@@ -232,15 +232,15 @@ TellsForks files later program topology tables packets lines on_demand hops text
     × IsSwitchReportIn p (ports_of t) (spelled p.fields (file_of later packets)).packets (commits told.run.happenings) told.plain
 
 -- **Where `compile` answered 0 for a placement that puts all arrays at one switch, so it is with each schedule, whatever packets overlap.**
-abbrev pub LonePlacementsTraceInOrder : Type 0
-LonePlacementsTraceInOrder = (files later : Files) (program topology placement tables packets lines : List ℕ) (on_demand hops : Bool) (compiled report : List ℕ)
+abbrev pub SingleOwnerPlacementsTraceInOrder : Type 0
+SingleOwnerPlacementsTraceInOrder = (files later : Files) (program topology placement tables packets lines : List ℕ) (on_demand hops : Bool) (compiled report : List ℕ)
     → Did files (compile program topology placement on_demand) compiled → StandAtOne files program topology placement
     → file_of later tables ≡ compiled → Did later (trace tables packets hops (schedule lines)) report
     → TellsForks files later program topology tables packets lines on_demand hops report
 
 -- **So it is where the tables that it reads are such.**
-abbrev pub LoneTablesTraceInOrder : Type 0
-LoneTablesTraceInOrder = (files later : Files) (program topology placement tables packets lines : List ℕ) (on_demand hops : Bool) (compiled report : List ℕ)
+abbrev pub SingleOwnerTablesTraceInOrder : Type 0
+SingleOwnerTablesTraceInOrder = (files later : Files) (program topology placement tables packets lines : List ℕ) (on_demand hops : Bool) (compiled report : List ℕ)
     → Did files (compile program topology placement on_demand) compiled
-    → file_of later tables ≡ compiled → AreLone later tables → Did later (trace tables packets hops (schedule lines)) report
+    → file_of later tables ≡ compiled → AreSingleOwner later tables → Did later (trace tables packets hops (schedule lines)) report
     → TellsForks files later program topology tables packets lines on_demand hops report

@@ -4,17 +4,17 @@ use Rattle.std.specs.declared.option.Option.{Option}
 use Rattle.std.specs.Io.KnownBytes.{Appends}
 use Rattle.snap_core.specs.declared.program.Program.{Program}
 use Rattle.snap_io.specs.Files.{Files, file_of}
-use Rattle.snap_topo.specs.declared.topology.Topology.{Topology}
-use Rattle.snap_topo.specs.Spells.{SpellsTopology}
-use Rattle.snap_route.specs.Tables.{Table}
+use Rattle.snap_topology.specs.declared.topology.Topology.{Topology}
+use Rattle.snap_topology.specs.Spells.{SpellsTopology}
+use Rattle.snap_topology.specs.Tables.{Table}
 use Rattle.snap_names.specs.Declarations.{core_program}
 use Rattle.snap_names.specs.Spells.{SpellsProgram}
 use Rattle.snap_equal.specs.Same.{MeanSame}
 use Rattle.snap_rows.specs.declared.tables.Tables.{Tables}
-use Rattle.snap_trace.specs.declared.fault.TraceFault.{TraceFault}
-use Rattle.snap_trace.specs.Spelled.{Spelled, ended, refused}
+use Rattle.snap_report.specs.declared.fault.TraceFault.{TraceFault}
+use Rattle.snap_report.specs.Spelled.{Spelled, ended, refused}
 use Rattle.snap_runs.specs.Plain.{ArePlainBlocks, IsPlainReport, spelled_for}
-use Rattle.snap_words.specs.Commands.{Command, changes, check, command_of, compile, equal, in_turn, plain, rounds, schedule, trace, demo}
+use Rattle.snap_words.specs.Commands.{Command, changes, check, command_of, compile, equal, in_order, plain, rounds, schedule, trace, demo}
 use Rattle.snap_demo.specs.Summary.{IsSummary}
 use Rattle.snap_cli.specs.declared.refusal.Refusal.{Refusal}
 use Rattle.snap_cli.specs.declared.refusal.Refusal.TheVariants.{Race, Differ}
@@ -22,9 +22,9 @@ use Rattle.snap_cli.specs.Answers.{Answers}
 use Rattle.snap_cli.specs.Changes.{ChangesTo}
 use Rattle.snap_cli.specs.Check.{NeverRaces, Races}
 use Rattle.snap_cli.specs.Compile.{AreSpelled, IsCompiled}
-use Rattle.snap_cli.specs.Deserved.{Ends, IsText, Tells}
+use Rattle.snap_cli.specs.Deserved.{Ends, IsText, WritesMessage}
 use Rattle.snap_cli.specs.Equal.{AreComparable, Differs}
-use Rattle.snap_cli.specs.InTurn.{RunsInTurnTo}
+use Rattle.snap_cli.specs.InOrder.{RunsInOrderTo}
 use Rattle.snap_cli.specs.Obs.{IsRunEnding}
 use Rattle.snap_cli.specs.Place.{IsPlaced, IsPlacementOf}
 use Rattle.snap_cli.specs.ProgramOf.{ProgramOf}
@@ -91,7 +91,7 @@ pub record IsExact (ending : Ending) (text : List ℕ) (status : ℕ) (out_old o
     (err_before err_now : ℕ) (err_old err_new : Option (List ℕ)) : Type 0 where
   pub status_is : status ≡ status_of ending
   pub out : Appends out_old out_new text
-  pub err : Tells err_before err_now err_old err_new (message_of ending)
+  pub err : WritesMessage err_before err_now err_old err_new (message_of ending)
 
 -- the status of a device that failed, or of want of memory
 abbrev pub IsFailure : (status : ℕ) → Type 0
@@ -187,15 +187,15 @@ ChangesExactly = (words : List (List ℕ)) (files : Files) (tables packets lines
 
 -- **Where no device failed and memory was there, `trace --ordered` of tables that a file spells answers 16 just where they are of
 -- version 1, and nothing has gone out; and else 0 just where all lines of the packets file are in form and all lines of the schedule,
--- if there is one, can be done to an end, and has then written the report of that run in turn.**
+-- if there is one, can be done to an end, and has then written the report of that run in order.**
 abbrev pub TurnsExactly : Type 0
 TurnsExactly = (words : List (List ℕ)) (files : Files) (tables packets : List ℕ)
     (lines : Option (List ℕ)) (hops : Bool) (t : Tables) (status : ℕ) (shelf_before shelf_now : List ℕ → ℕ)
     (out_before out_now : ℕ) (out_old out_new : Option (List ℕ)) (err_before err_now : ℕ) (err_old err_new : Option (List ℕ))
-    → command_of words ≡ Some (trace tables packets hops (in_turn lines)) → TablesOf (file_of files tables) (Ok t)
+    → command_of words ≡ Some (trace tables packets hops (in_order lines)) → TablesOf (file_of files tables) (Ok t)
     → Answers words (Some files) status shelf_before shelf_now out_before out_now out_old out_new err_before err_now err_old err_new
     → IsFailure status
-    ⊎ ((ending : Ending) × (text : List ℕ) × RunsInTurnTo files t packets hops lines ending text
+    ⊎ ((ending : Ending) × (text : List ℕ) × RunsInOrderTo files t packets hops lines ending text
     × IsExact ending text status out_old out_new err_before err_now err_old err_new)
 
 -- **Where no device failed and memory was there, `trace --ordered --workers` of tables that a file spells answers 16 just where they

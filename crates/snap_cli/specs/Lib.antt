@@ -8,8 +8,8 @@ pub mod Demo
 pub mod Deps
 pub mod Deserved
 pub mod Equal
-pub mod InTurn
-pub mod InTurnSteps
+pub mod InOrder
+pub mod InOrderSteps
 pub mod Rounds
 pub mod RoundsSteps
 pub mod Laws

@@ -1,6 +1,6 @@
 -- What the reading of a topology with its routes gives.
 use Rattle.std.specs.Prelude.{◌≡◌, ℕ, List, Result, Ok, Err}
-use Rattle.snap_route.specs.Tables.{AreRoutes}
+use Rattle.snap_topology.specs.Tables.{AreRoutes}
 use Rattle.snap_cli.specs.declared.network.Network.{Network}
 use Rattle.snap_cli.specs.declared.refusal.Refusal.{Refusal}
 use Rattle.snap_cli.specs.Routes.{HasNoRoutes}

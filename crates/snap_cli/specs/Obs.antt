@@ -5,8 +5,8 @@ use Rattle.std.specs.Io.KnownBytes.{Appends}
 use Rattle.snap_core.specs.declared.program.Program.{Program}
 use Rattle.snap_io.specs.Files.{Files, file_of}
 use Rattle.snap_io.specs.Sinks.{AppendsSome}
-use Rattle.snap_trace.specs.declared.fault.TraceFault.TheVariants as run
-use Rattle.snap_trace.specs.OneSwitch.{AreBlocks, HasReport, IsReport, RunEnding}
+use Rattle.snap_report.specs.declared.fault.TraceFault.TheVariants as run
+use Rattle.snap_report.specs.OneSwitch.{AreBlocks, HasReport, IsReport, RunEnding}
 use Rattle.snap_cli.specs.declared.refusal.Refusal.{Refusal}
 use Rattle.snap_cli.specs.declared.refusal.Refusal.TheVariants.{Read, ReadChange, Write, Limit, Packets, NoMemory, Undefined}
 use Rattle.snap_cli.specs.ProgramOf.{ProgramOf}

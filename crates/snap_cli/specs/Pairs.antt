@@ -6,7 +6,7 @@ use Rattle.snap_core.specs.declared.program.Field.{Field}
 use Rattle.snap_core.specs.declared.program.Program.{Program}
 use Rattle.snap_core.specs.Arrays.{Arrays}
 use Rattle.snap_core.specs.Listing.{IsListing}
-use Rattle.snap_trace.specs.Reports.{array_line, fields_text}
+use Rattle.snap_report.specs.Reports.{array_line, fields_text}
 
 -- `packet` and all fields of a packet
 abbrev pub packet_line : List Field → List ℕ → List ℕ
@@ -14,7 +14,7 @@ packet_line fields packet = codes "packet" ++ fields_text 0 fields packet ++ cod
 
 -- a first line, a line for each place that isn't 0, and the packet
 abbrev pub pair_text : (first : List ℕ) → Program → List Entry → List ℕ → List ℕ
-pair_text first p entries packet = concat (first ∷ flat_map (array_line p.vars) entries ∷ packet_line p.fields packet ∷ [])
+pair_text first p entries packet = concat (first ∷ flat_map (array_line p.arrays) entries ∷ packet_line p.fields packet ∷ [])
 
 -- the text tells this store and this packet behind this line
 abbrev pub TellsPair : (first : List ℕ) → Program → Arrays → List ℕ → (text : List ℕ) → Type 0

@@ -4,16 +4,16 @@ use Rattle.snap_core.specs.declared.program.Program.{Program}
 use Rattle.snap_core.specs.declared.program.Which.TheVariants.{Bytes}
 use Rattle.snap_dep.specs.Ranks.{Grouping, IsGrouping}
 use Rattle.snap_io.specs.Files.{Files, file_of}
-use Rattle.snap_topo.specs.declared.topology.Topology.{Topology}
-use Rattle.snap_topo.specs.Form.{IsInForm}
-use Rattle.snap_route.specs.Tables.{AreRoutes, Table}
-use Rattle.snap_place.specs.Printed.{placement_text}
-use Rattle.snap_seek.specs.declared.best.Best.{Best}
-use Rattle.snap_seek.specs.declared.demand.Demand.{Demand}
-use Rattle.snap_seek.specs.declared.demand.DemandFault.{DemandFault}
-use Rattle.snap_seek.specs.declared.demand.DemandFault.TheVariants as seek
-use Rattle.snap_seek.specs.Answer.{IsAnswer}
-use Rattle.snap_seek.specs.Placements.{IsBestOf}
+use Rattle.snap_topology.specs.declared.topology.Topology.{Topology}
+use Rattle.snap_topology.specs.Form.{IsWellFormed}
+use Rattle.snap_topology.specs.Tables.{AreRoutes, Table}
+use Rattle.snap_placement.specs.Printed.{placement_text}
+use Rattle.snap_placement.specs.declared.best.Best.{Best}
+use Rattle.snap_placement.specs.declared.demand.Demand.{Demand}
+use Rattle.snap_placement.specs.declared.demand.DemandFault.{DemandFault}
+use Rattle.snap_placement.specs.declared.demand.DemandFault.TheVariants as seek
+use Rattle.snap_placement.specs.DemandAnswer.{IsAnswer}
+use Rattle.snap_placement.specs.Placements.{IsBestOf}
 use Rattle.snap_cli.specs.declared.refusal.NoDemand.TheVariants.{NotToml, Shape, NoPort, NoArray, NoSwitch, Nowhere}
 use Rattle.snap_cli.specs.declared.refusal.Refusal.{Refusal}
 use Rattle.snap_cli.specs.declared.refusal.Refusal.TheVariants as refused
@@ -25,19 +25,19 @@ use Rattle.snap_cli.specs.TopologyOf.{TopologyOf}
 -- the text is that of the placement of least cost for this demand
 abbrev pub IsBestText : Program → Grouping → Topology → Table → Demand → List ℕ → Type 0
 IsBestText p groups t table demand text = (best : Best)
-    × IsBestOf groups t table demand best × (text ≡ placement_text p.vars t.switches best.owners best.cost)
+    × IsBestOf groups t table demand best × (text ≡ placement_text p.arrays t.switches best.owners best.cost)
 
 -- The text of the placement of least cost, for a topology in form and the demand that a file of at most 1,048,576 bytes spells.
 pub record IsPlacementOf (p : Program) (t : Topology) (table : Table) (file text : List ℕ) : Type 0 where
   pub short : length file ≤ 1048576
-  pub form : IsInForm t
+  pub form : IsWellFormed t
   pub grouping : Grouping
-  pub groups : IsGrouping p.body (length p.vars) grouping
+  pub groups : IsGrouping p.body (length p.arrays) grouping
   pub demand : Demand
   pub spells : IsAnswer p grouping t file (Ok demand)
   pub best : Best
   pub is_best : IsBestOf grouping t table demand best
-  pub is : text ≡ placement_text p.vars t.switches best.owners best.cost
+  pub is : text ≡ placement_text p.arrays t.switches best.owners best.cost
 
 -- the refusal of a text that spells no demand of a program with these arrays
 abbrev pub refusal_of_demand : List (List ℕ) → DemandFault → Refusal
@@ -53,11 +53,11 @@ refusal_of_demand arrays seek.NoMemory = refused.NoMemory
 -- the text spells no demand for this reason
 pub record SpellsNoDemand (p : Program) (t : Topology) (text : List ℕ) (refusal : Refusal) : Type 0 where
   pub grouping : Grouping
-  pub groups : IsGrouping p.body (length p.vars) grouping
+  pub groups : IsGrouping p.body (length p.arrays) grouping
   pub fault : DemandFault
   pub known : fault ≢ seek.NoMemory
   pub answer : IsAnswer p grouping t text (Err fault)
-  pub is : refusal ≡ refusal_of_demand p.vars fault
+  pub is : refusal ≡ refusal_of_demand p.arrays fault
 
 -- the file spells none, or is too long
 abbrev pub HasNoDemand : Program → Topology → (file : List ℕ) → Refusal → Type 0

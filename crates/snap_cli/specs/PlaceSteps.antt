@@ -4,14 +4,14 @@ use Rattle.std.specs.declared.alloc.Global.{Global}
 use Rattle.snap_core.specs.declared.program.Program.{Program}
 use Rattle.snap_dep.specs.Ranks.{Grouping, IsGrouping}
 use Rattle.snap_io.specs.Files.{Files}
-use Rattle.snap_topo.specs.declared.topology.Topology.{Topology}
-use Rattle.snap_topo.specs.Form.{IsInForm}
-use Rattle.snap_route.specs.Tables.{Table}
-use Rattle.snap_place.specs.Printed.{placement_text}
-use Rattle.snap_seek.specs.declared.best.Best.{Best}
-use Rattle.snap_seek.specs.declared.demand.Demand.{Demand}
-use Rattle.snap_seek.specs.Answer.{IsAnswer}
-use Rattle.snap_seek.specs.Placements.{IsBestOf}
+use Rattle.snap_topology.specs.declared.topology.Topology.{Topology}
+use Rattle.snap_topology.specs.Form.{IsWellFormed}
+use Rattle.snap_topology.specs.Tables.{Table}
+use Rattle.snap_placement.specs.Printed.{placement_text}
+use Rattle.snap_placement.specs.declared.best.Best.{Best}
+use Rattle.snap_placement.specs.declared.demand.Demand.{Demand}
+use Rattle.snap_placement.specs.DemandAnswer.{IsAnswer}
+use Rattle.snap_placement.specs.Placements.{IsBestOf}
 use Rattle.snap_cli.specs.declared.refusal.Refusal.{Refusal}
 use Rattle.snap_cli.specs.Place.{HasNoPlacement, IsPlaced, SpellsNoDemand}
 use Rattle.snap_cli.specs.Reached.{IsReached}
@@ -19,14 +19,14 @@ use Rattle.snap_cli.specs.Texts.{RefusesBy}
 
 -- the text of the best placement, for the demand that a text spells
 pub record IsPlacement (p : Program) (t : Topology) (table : Table) (text made : List ℕ) : Type 0 where
-  pub form : IsInForm t
+  pub form : IsWellFormed t
   pub grouping : Grouping
-  pub groups : IsGrouping p.body (length p.vars) grouping
+  pub groups : IsGrouping p.body (length p.arrays) grouping
   pub demand : Demand
   pub spells : IsAnswer p grouping t text (Ok demand)
   pub best : Best
   pub is_best : IsBestOf grouping t table demand best
-  pub is : made ≡ placement_text p.vars t.switches best.owners best.cost
+  pub is : made ≡ placement_text p.arrays t.switches best.owners best.cost
 
 abbrev pub Places : Program → Topology → Table → (text : List ℕ) → Result (Vec ℕ Global) Refusal → Type 0
 Places p t table text (Ok made) = IsPlacement p t table text made.items

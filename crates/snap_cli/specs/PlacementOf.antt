@@ -2,10 +2,10 @@
 use Rattle.std.specs.Prelude.{◌≡◌, ◌⊎◌, ℕ, ◌<◌, ◌≤◌, List, length, Result, Ok, Err}
 use Rattle.snap_core.specs.declared.program.Program.{Program}
 use Rattle.snap_core.specs.declared.program.Which.TheVariants.{Bytes}
-use Rattle.snap_topo.specs.declared.topology.Topology.{Topology}
-use Rattle.snap_place.specs.declared.placement.PlaceFault.{PlaceFault}
-use Rattle.snap_place.specs.declared.placement.PlaceFault.TheVariants as place
-use Rattle.snap_place.specs.Answer.{IsAnswer}
+use Rattle.snap_topology.specs.declared.topology.Topology.{Topology}
+use Rattle.snap_placement.specs.declared.placement.PlaceFault.{PlaceFault}
+use Rattle.snap_placement.specs.declared.placement.PlaceFault.TheVariants as place
+use Rattle.snap_placement.specs.Answer.{IsAnswer}
 use Rattle.snap_cli.specs.declared.refusal.NoPlacement.TheVariants.{NotToml, Shape, NoArray, NoPlace, NoSwitch, Apart}
 use Rattle.snap_cli.specs.declared.refusal.Refusal.{Refusal}
 use Rattle.snap_cli.specs.declared.refusal.Refusal.TheVariants as refused
@@ -24,7 +24,7 @@ refusal_of_placement arrays place.NoMemory = refused.NoMemory
 abbrev pub SpellsPlacement : Program → Topology → List ℕ → Result (List ℕ) Refusal → Type 0
 SpellsPlacement p t text (Ok places) = IsAnswer p t text (Ok places)
 SpellsPlacement p t text (Err refusal) = (fault : PlaceFault)
-    × IsAnswer p t text (Err fault) × (refusal ≡ refusal_of_placement p.vars fault)
+    × IsAnswer p t text (Err fault) × (refusal ≡ refusal_of_placement p.arrays fault)
 
 -- A file of more than 1,048,576 bytes is refused, whatever it spells.
 abbrev pub PlacementOf : Program → Topology → (file : List ℕ) → Result (List ℕ) Refusal → Type 0

@@ -19,7 +19,7 @@ use Rattle.snap_cli.specs.declared.refusal.NoTables.{NoTables}
 use Rattle.snap_cli.specs.declared.refusal.NoTables.TheVariants.{Line, Broken}
 use Rattle.snap_cli.specs.declared.refusal.TopologyFault.{TopologyFault}
 use Rattle.snap_cli.specs.declared.refusal.TopologyFault.TheVariants.{NotToml, Shape, SwitchTwice, UnknownSwitch}
-use Rattle.snap_cli.specs.declared.spot.Spot.{Spot}
+use Rattle.snap_cli.specs.declared.spot.Position.{Position}
 use Rattle.snap_runs.specs.Tallies.{name_in}
 
 -- how a command ends
@@ -81,7 +81,7 @@ naming_text WrongPrefix = codes "wrong prefix"
 abbrev pub message_text : List ℕ → List ℕ
 message_text text = concat (codes "snapc: " ∷ text ∷ codes "\n" ∷ [])
 
-abbrev pub message_at : Spot → List ℕ → List ℕ
+abbrev pub message_at : Position → List ℕ → List ℕ
 message_at spot text = concat (codes "snapc: " ∷ decimal spot.line ∷ codes ":" ∷ decimal spot.column ∷ codes ": " ∷ text ∷ codes "\n" ∷ [])
 
 abbrev pub message_with : List ℕ → ℕ → List ℕ

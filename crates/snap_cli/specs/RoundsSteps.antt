@@ -4,7 +4,7 @@ use Rattle.std.specs.Borrow.{Bor}
 use Rattle.std.specs.declared.option.Option.{Option}
 use Rattle.snap_io.specs.Files.{Files, file_of}
 use Rattle.snap_rows.specs.declared.tables.Tables.{Tables}
-use Rattle.snap_trace.specs.OneSwitch.{RunEnding}
+use Rattle.snap_report.specs.OneSwitch.{RunEnding}
 use Rattle.snap_order.specs.Rounds.{WritesRounds}
 use Rattle.snap_cli.specs.declared.refusal.Refusal.TheVariants.{VersionOne}
 use Rattle.snap_cli.specs.Refusals.{Ending}

@@ -3,12 +3,12 @@ use Rattle.std.specs.Prelude.{◌≡◌, ◌⊎◌, ℕ, List, [], Result, Ok, E
 use Rattle.std.specs.declared.option.Option.{Option}
 use Rattle.std.specs.Io.KnownBytes.{Appends}
 use Rattle.snap_io.specs.Sinks.{AppendsPart}
-use Rattle.snap_topo.specs.declared.topology.Topology.{Topology}
-use Rattle.snap_topo.specs.declared.topology.TopoFault.{TopoFault}
-use Rattle.snap_topo.specs.declared.topology.TopoFault.TheVariants as topo
-use Rattle.snap_route.specs.declared.table.RouteFault.{RouteFault}
-use Rattle.snap_route.specs.declared.table.RouteFault.TheVariants as route
-use Rattle.snap_route.specs.Tables.{Table, AreRoutes, IsUnreachable}
+use Rattle.snap_topology.specs.declared.topology.Topology.{Topology}
+use Rattle.snap_topology.specs.declared.topology.TopoFault.{TopoFault}
+use Rattle.snap_topology.specs.declared.topology.TopoFault.TheVariants as topo
+use Rattle.snap_topology.specs.declared.table.RouteFault.{RouteFault}
+use Rattle.snap_topology.specs.declared.table.RouteFault.TheVariants as route
+use Rattle.snap_topology.specs.Tables.{Table, AreRoutes, IsUnreachable}
 use Rattle.snap_cli.specs.declared.refusal.Refusal.{Refusal}
 use Rattle.snap_cli.specs.declared.refusal.Refusal.TheVariants as refused
 use Rattle.snap_cli.specs.declared.refusal.TopologyFault.TheVariants.{NotToml, Shape, SwitchTwice, UnknownSwitch}

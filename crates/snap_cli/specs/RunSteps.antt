@@ -2,7 +2,7 @@
 use Rattle.std.specs.Prelude.{ℕ, List, Result, Ok, Err}
 use Rattle.std.specs.Borrow.{Bor}
 use Rattle.snap_core.specs.declared.program.Which.TheVariants.{Bytes}
-use Rattle.snap_trace.specs.OneSwitch.{RunEnding}
+use Rattle.snap_report.specs.OneSwitch.{RunEnding}
 use Rattle.snap_runs.specs.declared.schedule.ScheduleFault.{ScheduleFault}
 use Rattle.snap_runs.specs.declared.schedule.ScheduleFault.TheVariants as schedule
 use Rattle.snap_cli.specs.declared.refusal.Refusal.{Refusal}

@@ -2,8 +2,8 @@
 use Rattle.std.specs.Prelude.{◌≡◌, ◌⊎◌, ℕ, ◌<◌, Bool, List, [], length, Ok, Err}
 use Rattle.snap_core.specs.declared.program.Which.TheVariants.{Bytes}
 use Rattle.snap_rows.specs.declared.tables.Tables.{Tables}
-use Rattle.snap_trace.specs.declared.fault.TraceFault.{TraceFault}
-use Rattle.snap_trace.specs.Spelled.{refused}
+use Rattle.snap_report.specs.declared.fault.TraceFault.{TraceFault}
+use Rattle.snap_report.specs.Spelled.{refused}
 use Rattle.snap_runs.specs.Plain.{spelled_for}
 use Rattle.snap_runs.specs.Schedules.{HasScheduleReport, IsReadWhole, RefusesScheduleLine}
 use Rattle.snap_cli.specs.declared.refusal.Refusal.TheVariants.{Limit, Schedule}

@@ -2,7 +2,7 @@
 use Rattle.std.specs.Prelude.{ℕ, ◌==◌, List, [], ◌∷◌, Err, Some, None, IsTrue}
 use Rattle.std.specs.declared.option.Option.{Option}
 use Rattle.std.specs.List.{list_any}
-use Rattle.snap_words.specs.Commands.{Command, Order, changes, check, compile, demo, deps, equal, in_turn, obs, place, plain, rounds, routes, schedule, trace}
+use Rattle.snap_words.specs.Commands.{Command, Order, changes, check, compile, demo, deps, equal, in_order, obs, place, plain, rounds, routes, schedule, trace}
 use Rattle.snap_cli.specs.declared.refusal.Refusal.{Refusal}
 use Rattle.snap_cli.specs.Refusals.{Ending, status_of}
 
@@ -16,12 +16,12 @@ abbrev pub statuses_of_schedule : Option (List ℕ) → List ℕ
 statuses_of_schedule None = []
 statuses_of_schedule (Some lines) = 13 ∷ []
 
--- 16 comes only in turn, and 20 only with changes
+-- 16 comes only in order, and 20 only with changes
 abbrev pub statuses_of_order : Order → List ℕ
 statuses_of_order plain = []
 statuses_of_order (schedule lines) = 13 ∷ []
 statuses_of_order (changes lines) = 20 ∷ []
-statuses_of_order (in_turn lines) = 16 ∷ statuses_of_schedule lines
+statuses_of_order (in_order lines) = 16 ∷ statuses_of_schedule lines
 statuses_of_order (rounds workers) = 16 ∷ []
 
 abbrev pub statuses_of_trace : Order → List ℕ

@@ -1,10 +1,10 @@
 -- The topology that a file spells, or why it spells none.
 use Rattle.std.specs.Prelude.{◌≡◌, ◌⊎◌, ℕ, ◌<◌, ◌≤◌, List, length, Result, Ok, Err}
 use Rattle.snap_core.specs.declared.program.Which.TheVariants.{Bytes}
-use Rattle.snap_topo.specs.declared.topology.Topology.{Topology}
-use Rattle.snap_topo.specs.declared.topology.TopoFault.{TopoFault}
-use Rattle.snap_topo.specs.declared.topology.TopoFault.TheVariants as topo
-use Rattle.snap_topo.specs.Answer.{IsAnswer}
+use Rattle.snap_topology.specs.declared.topology.Topology.{Topology}
+use Rattle.snap_topology.specs.declared.topology.TopoFault.{TopoFault}
+use Rattle.snap_topology.specs.declared.topology.TopoFault.TheVariants as topo
+use Rattle.snap_topology.specs.Answer.{IsAnswer}
 use Rattle.snap_cli.specs.declared.refusal.Refusal.{Refusal}
 use Rattle.snap_cli.specs.declared.refusal.Refusal.TheVariants as refused
 use Rattle.snap_cli.specs.declared.refusal.TopologyFault.{TopologyFault}

@@ -2,12 +2,12 @@
 use Rattle.std.specs.Prelude.{◌≡◌, ◌⊎◌, ℕ, Bool, List, [], Ok, Err}
 use Rattle.snap_io.specs.Files.{Files, file_of}
 use Rattle.snap_rows.specs.declared.tables.Tables.{Tables}
-use Rattle.snap_trace.specs.OneSwitch.{RunEnding}
+use Rattle.snap_report.specs.OneSwitch.{RunEnding}
 use Rattle.snap_runs.specs.Plain.{AreTraceBlocks, HasTrace, IsTrace}
-use Rattle.snap_words.specs.Commands.{Order, plain, schedule, changes, in_turn, rounds}
+use Rattle.snap_words.specs.Commands.{Order, plain, schedule, changes, in_order, rounds}
 use Rattle.snap_cli.specs.declared.refusal.Refusal.{Refusal}
 use Rattle.snap_cli.specs.Changes.{AreBlocksOfChanges, ChangesTo, IsChangesText, IsReachedByChanges}
-use Rattle.snap_cli.specs.InTurn.{IsInTurnText, MayPrecedeReadTurns, MayPrecedeTurns, RunsInTurnTo}
+use Rattle.snap_cli.specs.InOrder.{IsInOrderText, MayPrecedeReadTurns, MayPrecedeTurns, RunsInOrderTo}
 use Rattle.snap_cli.specs.Obs.{IsRunEnding}
 use Rattle.snap_cli.specs.Refusals.{Ending}
 use Rattle.snap_cli.specs.Rounds.{RunsByRoundsTo}
@@ -25,7 +25,7 @@ NetworkRunsTo files t packets hops plain ending text = TracesTo t hops (file_of 
 NetworkRunsTo files t packets hops (schedule lines) ending text = SchedulesTo t hops
     (file_of files packets) (file_of files lines) ending text
 NetworkRunsTo files t packets hops (changes lines) ending text = ChangesTo files t packets hops lines ending text
-NetworkRunsTo files t packets hops (in_turn lines) ending text = RunsInTurnTo files t packets hops lines ending text
+NetworkRunsTo files t packets hops (in_order lines) ending text = RunsInOrderTo files t packets hops lines ending text
 NetworkRunsTo files t packets hops (rounds workers) ending text = RunsByRoundsTo files t packets hops ending text
 
 -- its report
@@ -34,7 +34,7 @@ IsRunText files t packets hops plain text = HasTrace t hops (file_of files packe
 IsRunText files t packets hops (schedule lines) text = (ending : Ending)
     × SchedulesTo t hops (file_of files packets) (file_of files lines) ending text
 IsRunText files t packets hops (changes lines) text = IsChangesText files t packets hops lines text
-IsRunText files t packets hops (in_turn lines) text = IsInTurnText files t packets hops lines text
+IsRunText files t packets hops (in_order lines) text = IsInOrderText files t packets hops lines text
 IsRunText files t packets hops (rounds workers) text = (ending : Ending) × RunsByRoundsTo files t packets hops ending text
 
 -- what may have gone out before it ends: some first blocks, where packets run one after another
@@ -42,17 +42,17 @@ abbrev pub MayPrecedeRun : Files → Tables → (packets : List ℕ) → (hops :
 MayPrecedeRun files t packets hops plain text = AreTraceBlocks t hops (file_of files packets) text
 MayPrecedeRun files t packets hops (schedule lines) text = text ≡ []
 MayPrecedeRun files t packets hops (changes lines) text = (text ≡ []) ⊎ AreBlocksOfChanges files t packets hops lines text
-MayPrecedeRun files t packets hops (in_turn lines) text = (t.version ≡ 2) × MayPrecedeTurns files t packets hops lines text
+MayPrecedeRun files t packets hops (in_order lines) text = (t.version ≡ 2) × MayPrecedeTurns files t packets hops lines text
 MayPrecedeRun files t packets hops (rounds workers) text = text ≡ []
 
 -- what may have gone out where the run can't read the file with this name: the packets, the schedule once these are read, or a
--- file of the changes before any packet; in turn, where the tables are of version 2
+-- file of the changes before any packet; in order, where the tables are of version 2
 abbrev pub MayPrecedeReadRun : Files → Tables → (packets : List ℕ) → (hops : Bool) → Order → (name : List ℕ) → List ℕ → Type 0
 MayPrecedeReadRun files t packets hops plain name text = (name ≡ packets) × AreTraceBlocks t hops (file_of files packets) text
 MayPrecedeReadRun files t packets hops (schedule lines) name text = IsOfSchedule t (file_of files packets) packets lines name × (text ≡ [])
 MayPrecedeReadRun files t packets hops (changes lines) name text =
     (IsReachedByChanges files t lines name × (text ≡ [])) ⊎ ((name ≡ packets) × AreBlocksOfChanges files t packets hops lines text)
-MayPrecedeReadRun files t packets hops (in_turn lines) name text = (t.version ≡ 2)
+MayPrecedeReadRun files t packets hops (in_order lines) name text = (t.version ≡ 2)
     × MayPrecedeReadTurns files t packets hops lines name text
 MayPrecedeReadRun files t packets hops (rounds workers) name text = (t.version ≡ 2) × (name ≡ packets) × (text ≡ [])
 

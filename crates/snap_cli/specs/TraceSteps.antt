@@ -7,7 +7,7 @@ use Rattle.snap_rows.specs.declared.tables.Tables.{Tables}
 use Rattle.snap_tables.specs.Lines.{IsRead}
 use Rattle.snap_tables.specs.declared.fault.TablesFault.{TablesFault}
 use Rattle.snap_tables.specs.declared.fault.TablesFault.TheVariants as tables
-use Rattle.snap_trace.specs.OneSwitch.{RunEnding}
+use Rattle.snap_report.specs.OneSwitch.{RunEnding}
 use Rattle.snap_runs.specs.Plain.{WritesTrace}
 use Rattle.snap_runs.specs.Schedules.{WritesSchedule}
 use Rattle.snap_runs.specs.declared.schedule.ScheduleFault.{ScheduleFault}
@@ -18,7 +18,7 @@ use Rattle.snap_cli.specs.declared.refusal.Refusal.{Refusal}
 use Rattle.snap_cli.specs.declared.refusal.Refusal.TheVariants as refused
 use Rattle.snap_cli.specs.Refusals.{Ending}
 use Rattle.snap_cli.specs.ChangesSteps.{MeetsChanges}
-use Rattle.snap_cli.specs.InTurnSteps.{MeetsInTurn}
+use Rattle.snap_cli.specs.InOrderSteps.{MeetsInOrder}
 use Rattle.snap_cli.specs.RoundsSteps.{MeetsByRounds}
 use Rattle.snap_cli.specs.RunSteps.{ending_of_run, ending_of_schedule}
 use Rattle.snap_cli.specs.TablesOf.{SpellsTables, TablesOf}
@@ -61,5 +61,5 @@ abbrev pub MeetsOrder : Files → Tables → (hops : Bool) → (packets : Bor (L
 MeetsOrder files t hops packets order.Plain ending old new = MeetsTrace t hops packets (file_of files packets.now) ending old new
 MeetsOrder files t hops packets (order.Schedule lines) ending old new = MeetsSchedule files t hops packets lines ending old new
 MeetsOrder files t hops packets (order.Changes lines) ending old new = MeetsChanges files t hops packets lines.now ending old new
-MeetsOrder files t hops packets (order.InTurn lines) ending old new = MeetsInTurn files t hops packets lines ending old new
+MeetsOrder files t hops packets (order.InOrder lines) ending old new = MeetsInOrder files t hops packets lines ending old new
 MeetsOrder files t hops packets (order.Rounds workers) ending old new = MeetsByRounds files t hops packets ending old new

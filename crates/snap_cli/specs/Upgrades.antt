@@ -6,12 +6,12 @@ use Rattle.snap_core.specs.declared.program.Program.{Program}
 use Rattle.snap_io.specs.Files.{Files, file_of}
 use Rattle.snap_rows.specs.declared.tables.Tables.{Tables}
 use Rattle.snap_rows.specs.Entries.{port_numbers}
-use Rattle.snap_trace.specs.Spelled.{ended, spelled}
-use Rattle.snap_move.specs.declared.change.Change.{Change}
-use Rattle.snap_move.specs.declared.later.Later.{Later}
-use Rattle.snap_move.specs.Changing.{ChangedRun, IsTurnsReport, in_force}
-use Rattle.snap_move.specs.Laws.{AreTurnsShort}
-use Rattle.snap_move.specs.OneSwitch.{IsChangingReport, IsSwitchReportUnder}
+use Rattle.snap_report.specs.Spelled.{ended, spelled}
+use Rattle.snap_runs.specs.declared.change.Change.{Change}
+use Rattle.snap_runs.specs.declared.later.Later.{Later}
+use Rattle.snap_runs.specs.Changing.{ChangedRun, IsTurnsReport, in_force}
+use Rattle.snap_refinement.specs.ChangeLaws.{AreTurnsShort}
+use Rattle.snap_refinement.specs.ChangingSwitch.{IsChangingReport, IsSwitchReportUnder}
 use Rattle.snap_words.specs.Commands.{changes, compile, trace}
 use Rattle.snap_cli.specs.Changes.{ChangedTables, ChangesOf}
 use Rattle.snap_cli.specs.Headline.{Did, TellsRun}

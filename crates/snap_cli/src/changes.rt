@@ -2,9 +2,9 @@
 
 ghost use Rattle.std.specs.Prelude.{◌≡◌, ◌++◌, ◌∷◌, [], IfErr, IfOk, IfSome, OnOk};
 ghost use Rattle.snap_io.specs.Files.{file_of};
-ghost use Rattle.snap_move.specs.Changing.{HaveShapeOf, IsRising};
-ghost use Rattle.snap_move.specs.Lines.{AreRising};
-ghost use Rattle.snap_move.specs.Shapes.{HaveOneShape};
+ghost use Rattle.snap_runs.specs.Changing.{HaveShapeOf, IsRising};
+ghost use Rattle.snap_runs.specs.ChangeLines.{AreRising};
+ghost use Rattle.snap_runs.specs.Shapes.{HaveOneShape};
 ghost use Rattle.snap_cli.specs.Causes.{BlamesNoDevice, OnlyReads, ReadsAndWrites};
 ghost use Rattle.snap_cli.specs.Changes.{refusal_of_changes};
 ghost use Rattle.snap_cli.specs.ChangesSteps.{GivesChanges, LoadsChanges, LoadsLater, LoadsLaters, MeetsChanges, MeetsLater, ReadsChanges, afters, afters_of};
@@ -19,11 +19,11 @@ use crate::tables::{MOST_TABLES, read_tables};
 use crate::text::load_text;
 use snap_core::program::Which;
 use snap_io::{ReadRefusal, Shelf, Sink, read_whole};
-use snap_move::change::{Change, ChangesFault, read_changes};
-use snap_move::later::Later;
-use snap_move::shape::same_shape;
-use snap_move::trace::trace_changes;
 use snap_rows::valid::Valid;
+use snap_runs::change::{Change, ChangesFault, read_changes};
+use snap_runs::later::Later;
+use snap_runs::shape::same_shape;
+use snap_runs::trace_changes::trace_changes;
 use std::alloc::Global;
 
 /// The most bytes of a changes file.

@@ -1,7 +1,7 @@
 //! The command `check`: whether the parts of a program race on some store and packet.
 
 ghost use Rattle.std.specs.Prelude.{IfSome};
-ghost use Rattle.snap_core.specs.Programs.{IsInForm};
+ghost use Rattle.snap_core.specs.Programs.{IsWellFormed};
 ghost use Rattle.snap_words.specs.Commands.{check};
 ghost use Rattle.snap_cli.specs.Causes.{OnlyWrites, ReadsAndWrites};
 ghost use Rattle.snap_cli.specs.Check.{Judges, MeetsCheck};
@@ -35,7 +35,7 @@ pub(crate) fn report<'a, S: Shelf, O: Sink>(
 
 // Writes the answer of a program that was read.
 fn answer<'a, O: Sink>(alloc: Global, program: &Program, out: &mut O) -> Result<(), Refusal<'a>>
-    requires { IsInForm program.now }
+    requires { IsWellFormed program.now }
     ensures meets { MeetsCheck program.now result (O.taken out.old) (O.taken out.new) }
     ensures devices { OnlyWrites (O.faults out.old) (O.faults out.new) result }
 {
@@ -48,7 +48,7 @@ fn answer<'a, O: Sink>(alloc: Global, program: &Program, out: &mut O) -> Result<
 
 // Whether a program's parts race.
 fn judge<'a>(alloc: Global, program: &Program) -> Result<(), Refusal<'a>>
-    requires { IsInForm program.now }
+    requires { IsWellFormed program.now }
     ensures { Judges program.now result }
 {
     whole_programs_never_race();

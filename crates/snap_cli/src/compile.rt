@@ -6,12 +6,12 @@
 ghost use Rattle.std.specs.Prelude.{◌≡◌, ◌∷◌, [], IfErr, IfOk, IfSome, length};
 ghost use Rattle.snap_build.specs.Whole.{IsWhole};
 ghost use Rattle.snap_core.specs.Laws.{PutsSmall};
-ghost use Rattle.snap_core.specs.Programs.{IsInForm};
+ghost use Rattle.snap_core.specs.Programs.{IsWellFormed};
 ghost use Rattle.snap_dep.specs.Ranks.{IsGrouping};
-ghost use Rattle.snap_place.specs.Answer.{GivesSwitches};
+ghost use Rattle.snap_placement.specs.Answer.{GivesSwitches};
 ghost use Rattle.snap_tables.specs.ReadBack.{IsReadBack};
-ghost use Rattle.snap_topo.specs.Form.{IsInForm as IsTopology};
-ghost use Rattle.snap_route.specs.Tables.{AreRoutes};
+ghost use Rattle.snap_topology.specs.Form.{IsWellFormed as IsTopology};
+ghost use Rattle.snap_topology.specs.Tables.{AreRoutes};
 ghost use Rattle.snap_words.specs.Commands.{compile};
 ghost use Rattle.snap_cli.specs.Causes.{BlamesNoDevice, OnlyReads, OnlyWrites, ReadsAndWrites};
 ghost use Rattle.snap_cli.specs.Compile.{AreMade};
@@ -33,7 +33,7 @@ use snap_dep::groups::Groups;
 use snap_io::{Shelf, Sink};
 use snap_make::on_demand::on_demand as tables_on_demand;
 use snap_make::tables::proved_tables;
-use snap_place::placement::{PlaceFault, Placement};
+use snap_placement::placement::{PlaceFault, Placement};
 use snap_rows::proved::Proved;
 use snap_tables::fault::PrintFault;
 use snap_tables::print::print_proved;
@@ -108,14 +108,14 @@ fn tables_of<'a>(
     text: &[u8],
     on_demand: bool,
 ) -> Result<Proved, Refusal<'a>>
-    requires program { IsInForm program }
+    requires program { IsWellFormed program }
     requires topology { IsTopology network.now.topology }
     requires routes { AreRoutes network.now.topology network.now.routes }
     ensures compiles { Compiles program network.now.topology text.now on_demand result }
     ensures devices { IfErr result BlamesNoDevice }
 {
     let groups = groups(alloc, &program)?;
-    match snap_place::read(alloc, text, &program, &groups, &network.topology) {
+    match snap_placement::read(alloc, text, &program, &groups, &network.topology) {
         Ok(placement) => {
             let made = make(alloc, &program, &groups, network, &placement, on_demand);
             forget(program);
@@ -123,7 +123,7 @@ fn tables_of<'a>(
             forget(placement);
             made
         }
-        Err(fault) => Err(refusal_of_placement(program.vars, fault)),
+        Err(fault) => Err(refusal_of_placement(program.arrays, fault)),
     }
 }
 
@@ -152,8 +152,8 @@ fn make<'a>(
     placement: &Placement,
     on_demand: bool,
 ) -> Result<Proved, Refusal<'a>>
-    requires program { IsInForm program.now }
-    requires groups { IsGrouping program.now.body (length program.now.vars) groups.now }
+    requires program { IsWellFormed program.now }
+    requires groups { IsGrouping program.now.body (length program.now.arrays) groups.now }
     requires topology { IsTopology network.now.topology }
     requires routes { AreRoutes network.now.topology network.now.routes }
     requires placement { GivesSwitches program.now network.now.topology placement.now }
@@ -178,9 +178,9 @@ fn tables_from(
     placement: &Placement,
     on_demand: bool,
 ) -> Result<Proved, NoMemory>
-    requires form { IsInForm program.now }
+    requires form { IsWellFormed program.now }
     requires small { PutsSmall program.now.body }
-    requires groups { IsGrouping program.now.body (length program.now.vars) groups.now }
+    requires groups { IsGrouping program.now.body (length program.now.arrays) groups.now }
     requires whole { IsWhole program.now groups.now built.old.nodes built.old.root }
     requires topology { IsTopology network.now.topology }
     requires routes { AreRoutes network.now.topology network.now.routes }

@@ -68,8 +68,8 @@ fn text_of(alloc: Global, program: &Program) -> Result<Vec<u8>, NoMemory>
     let pairs = dependencies(alloc, program)?;
     let groups = groups(alloc, program)?;
     let mut text = Vec::new(alloc);
-    put_dependencies(&mut text, &program.vars, &pairs)?;
-    put_groups(&mut text, &program.vars, &groups)?;
+    put_dependencies(&mut text, &program.arrays, &pairs)?;
+    put_groups(&mut text, &program.arrays, &groups)?;
     text.extend_from_slice(b"end\n")?;
     Ok(text)
 }

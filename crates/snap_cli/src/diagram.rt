@@ -3,7 +3,7 @@
 ghost use Rattle.std.specs.Prelude.{◌≡◌, IfErr, IfOk, length};
 ghost use Rattle.snap_core.specs.Cells.{arrays_of};
 ghost use Rattle.snap_core.specs.Laws.{PutsSmall};
-ghost use Rattle.snap_core.specs.Programs.{IsInForm};
+ghost use Rattle.snap_core.specs.Programs.{IsWellFormed};
 ghost use Rattle.snap_dep.specs.Ranks.{IsGrouping};
 ghost use Rattle.snap_build.specs.Whole.{IsRaceOf, IsWhole};
 ghost use Rattle.snap_cli.specs.Check.{HasWhole, IsRaceTold};
@@ -21,7 +21,7 @@ use std::alloc::Global;
 /// The diagram of a program, or the refusal that tells a store and a packet on which its parts race. Its text is made
 /// here, before the status is settled.
 pub(crate) fn diagram<'a>(alloc: Global, program: &Program) -> Result<Built, Refusal<'a>>
-    requires { IsInForm program.now }
+    requires { IsWellFormed program.now }
     ensures whole { IfOk result (λ b. HasWhole program.now b.nodes b.root) }
     ensures race { IfErr result (IsRaceTold program.now) }
 {
@@ -35,8 +35,8 @@ pub(crate) fn diagram_of<'a>(
     program: &Program,
     groups: &Groups,
 ) -> Result<Built, Refusal<'a>>
-    requires form { IsInForm program.now }
-    requires groups { IsGrouping program.now.body (length program.now.vars) groups.now }
+    requires form { IsWellFormed program.now }
+    requires groups { IsGrouping program.now.body (length program.now.arrays) groups.now }
     ensures whole { IfOk result (λ b. IsWhole program.now groups.now b.nodes b.root) }
     ensures small { IfOk result (λ b. PutsSmall program.now.body) }
     ensures race { IfErr result (IsRaceTold program.now) }

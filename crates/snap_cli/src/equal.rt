@@ -2,7 +2,7 @@
 
 ghost use Rattle.std.specs.Prelude.{◌↔◌, IfSome, IsTrue};
 ghost use Rattle.snap_core.specs.Cells.{arrays_of};
-ghost use Rattle.snap_core.specs.Programs.{IsInForm};
+ghost use Rattle.snap_core.specs.Programs.{IsWellFormed};
 ghost use Rattle.snap_words.specs.Commands.{equal};
 ghost use Rattle.snap_equal.specs.Same.{TellApart};
 ghost use Rattle.snap_cli.specs.Causes.{OnlyWrites, ReadsAndWrites};
@@ -52,8 +52,8 @@ fn answer<'a, O: Sink>(
     right: &Program,
     out: &mut O,
 ) -> Result<(), Refusal<'a>>
-    requires left { IsInForm left.now }
-    requires right { IsInForm right.now }
+    requires left { IsWellFormed left.now }
+    requires right { IsWellFormed right.now }
     ensures meets { MeetsEqual left.now right.now result (O.taken out.old) (O.taken out.new) }
     ensures devices { OnlyWrites (O.faults out.old) (O.faults out.new) result }
 {
@@ -69,13 +69,13 @@ fn are_declared_alike(left: &Program, right: &Program) -> bool
     ensures { IsTrue result ↔ AreDeclaredAlike left.now right.now }
 {
     same_fields(left.fields.list(), right.fields.list())
-        && same_names(left.vars.items(), right.vars.items())
+        && same_names(left.arrays.items(), right.arrays.items())
 }
 
 // Whether two programs mean the same.
 fn judge<'a>(alloc: Global, left: &Program, right: &Program) -> Result<(), Refusal<'a>>
-    requires left { IsInForm left.now }
-    requires right { IsInForm right.now }
+    requires left { IsWellFormed left.now }
+    requires right { IsWellFormed right.now }
     ensures { Compares left.now right.now result }
 {
     if !are_declared_alike(left, right) {
@@ -92,8 +92,8 @@ fn judge_second<'a>(
     right: &Program,
     first: &Built,
 ) -> Result<(), Refusal<'a>>
-    requires left { IsInForm left.now }
-    requires right { IsInForm right.now }
+    requires left { IsWellFormed left.now }
+    requires right { IsWellFormed right.now }
     requires alike { AreDeclaredAlike left.now right.now }
     requires first { HasWhole left.now first.now.nodes first.now.root }
     ensures { Compares left.now right.now result }
@@ -111,22 +111,22 @@ fn judge_both<'a>(
     first: &Built,
     second: &Built,
 ) -> Result<(), Refusal<'a>>
-    requires left { IsInForm left.now }
-    requires right { IsInForm right.now }
+    requires left { IsWellFormed left.now }
+    requires right { IsWellFormed right.now }
     requires alike { AreDeclaredAlike left.now right.now }
     requires first { HasWhole left.now first.now.nodes first.now.root }
     requires second { HasWhole right.now second.now.nodes second.now.root }
     ensures { Compares left.now right.now result }
 {
     whole_programs_never_race();
-    let (comps, vars) = (left.fields.count(), left.vars.items().len() as u16);
+    let (comps, arrays) = (left.fields.count(), left.arrays.items().len() as u16);
     match compare(
         &first.nodes,
         first.root,
         &second.nodes,
         second.root,
         comps,
-        vars,
+        arrays,
     ) {
         Ok(Compared::Same) => Ok(()),
         Ok(Compared::Differ { store, packet }) => Err(differ(alloc, left, right, &store, &packet)),

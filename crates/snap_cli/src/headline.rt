@@ -1,8 +1,8 @@
 //! The headline: what is compiled and then traced is what one big switch does.
 
 ghost use Rattle.std.specs.Prelude.{List, Option, ℕ};
-ghost use Rattle.snap_words.specs.Commands.{in_turn, plain, rounds, schedule};
-ghost use Rattle.snap_cli.specs.Headline.{CallsTraceAsOneSwitch, LonePlacementsTraceInOrder, LoneTablesTraceInOrder, RoundsTraceAlike, RoundsTraceAsOneSwitch, RoundsTraceAsPlain, SchedulesTraceAsOneSwitch, TracesAsOneSwitch, TracesInOrder, TurnsTraceAsOneSwitch, TurnsTraceAsPlain};
+ghost use Rattle.snap_words.specs.Commands.{in_order, plain, rounds, schedule};
+ghost use Rattle.snap_cli.specs.Headline.{CallsTraceAsOneSwitch, SingleOwnerPlacementsTraceInOrder, SingleOwnerTablesTraceInOrder, RoundsTraceAlike, RoundsTraceAsOneSwitch, RoundsTraceAsPlain, SchedulesTraceAsOneSwitch, TracesAsOneSwitch, TracesInOrder, TurnsTraceAsOneSwitch, TurnsTraceAsPlain};
 ghost use Rattle.snap_cli.specs.Upgrades.{ChangesTraceAsOneSwitch, UpgradesTraceAsOneSwitch};
 
 use crate::laws::{
@@ -10,27 +10,30 @@ use crate::laws::{
     spells_one_program, traces_exactly, turns_exactly,
 };
 use snap_core::laws::has_one_listing;
-use snap_move::laws::{
+use snap_order::laws::{
+    rounds_are_deterministic, runs_in_order_are_short, runs_in_order_report_one_switch,
+};
+use snap_refinement::change_laws::{
     said_changes_rise, turns_report_without_hops, upgraded_runs_are_short,
     upgraded_runs_report_one_switch,
 };
-use snap_order::laws::{
-    rounds_run_one_way, runs_in_turn_are_short, runs_in_turn_report_one_switch,
+use snap_refinement::laws::{
+    orders_have_one_report, runs_are_short, sequential_runs_report_one_switch,
+    single_owner_runs_report_in_order,
 };
-use snap_runs::laws::{calm_schedules_run_calmly, runs_report_without_hops, spelled_packets_fit};
-use snap_whole::laws::{
-    calm_runs_report_one_switch, lone_runs_report_in_order, orders_have_one_report, runs_are_short,
+use snap_runs::laws::{
+    runs_report_without_hops, sequential_schedules_run_sequentially, spelled_packets_fit,
 };
 
 /// **A call of `compile` answered 0, and a call of `trace` with its output as the file of tables answered 0, in any order of
 /// events and with hops or without. Then what the second wrote is the report of a run in that order. Without the hops it is what
 /// one big switch does with the packets in the order in which they take effect, and no copy makes more than (groups + 1) times
 /// the greatest distance hops, or where `compile` had `--on-demand` (2 groups + 1) times.** They take effect as they come in, one
-/// after another, in turn, by rounds, and by a schedule that is calm; and by any schedule as they fork where the tables are lone.
+/// after another, in order, by rounds, and by a schedule that is sequential; and by any schedule as they fork where the tables are single-owner.
 pub fn runs_trace_as_one_switch()
     ensures each { TracesInOrder plain }
     ensures schedules { (lines : List ℕ) → TracesInOrder (schedule lines) }
-    ensures turns { (lines : Option (List ℕ)) → TracesInOrder (in_turn lines) }
+    ensures turns { (lines : Option (List ℕ)) → TracesInOrder (in_order lines) }
     ensures by_rounds { (workers : ℕ) → TracesInOrder (rounds workers) }
 {
     answers_exactly();
@@ -42,13 +45,13 @@ pub fn runs_trace_as_one_switch()
     spelled_packets_fit();
     runs_report_without_hops();
     orders_have_one_report();
-    calm_schedules_run_calmly();
-    calm_runs_report_one_switch();
-    lone_runs_report_in_order();
+    sequential_schedules_run_sequentially();
+    sequential_runs_report_one_switch();
+    single_owner_runs_report_in_order();
     runs_are_short();
-    runs_in_turn_report_one_switch();
-    rounds_run_one_way();
-    runs_in_turn_are_short();
+    runs_in_order_report_one_switch();
+    rounds_are_deterministic();
+    runs_in_order_are_short();
 }
 
 /// **So `trace` without options writes what one big switch does:** for each packet of the packets file its block, with exactly
@@ -69,7 +72,7 @@ pub fn calls_trace_as_one_switch()
     traces_as_one_switch();
 }
 
-/// **So does `trace --schedule`, where the schedule is calm:** each packet is injected when no copy is in flight.
+/// **So does `trace --schedule`, where the schedule is sequential:** each packet is injected when no copy is in flight.
 pub fn schedules_trace_as_one_switch()
     ensures { SchedulesTraceAsOneSwitch }
 {
@@ -80,9 +83,9 @@ pub fn schedules_trace_as_one_switch()
 /// **And whatever packets overlap, where all arrays stand at one switch,** or on demand those that a packet can meet, it writes
 /// what one big switch does with the packets in the order in which they fork, each block at its packet's number. With `--hops` the
 /// hops of that run stand there too.
-pub fn lone_schedules_trace_as_one_switch()
-    ensures placed { LonePlacementsTraceInOrder }
-    ensures tables { LoneTablesTraceInOrder }
+pub fn single_owner_schedules_trace_as_one_switch()
+    ensures placed { SingleOwnerPlacementsTraceInOrder }
+    ensures tables { SingleOwnerTablesTraceInOrder }
 {
     answers_exactly();
     compiles_exactly();
@@ -101,8 +104,8 @@ pub fn turns_trace_as_one_switch()
     turns_exactly();
     has_one_listing();
     spelled_packets_fit();
-    calm_runs_report_one_switch();
-    runs_in_turn_report_one_switch();
+    sequential_runs_report_one_switch();
+    runs_in_order_report_one_switch();
     orders_have_one_report();
     runs_trace_as_one_switch();
 }
@@ -121,8 +124,8 @@ pub fn rounds_trace_as_one_switch()
     rounds_exactly();
     has_one_listing();
     spelled_packets_fit();
-    calm_runs_report_one_switch();
-    runs_in_turn_report_one_switch();
+    sequential_runs_report_one_switch();
+    runs_in_order_report_one_switch();
     orders_have_one_report();
     runs_trace_as_one_switch();
 }

@@ -1,9 +1,9 @@
 //! What a command reads that is told a program, a topology and a file that needs both.
 
 ghost use Rattle.std.specs.Prelude.{◌∷◌, [], IfErr, IfOk, IfSome};
-ghost use Rattle.snap_core.specs.Programs.{IsInForm};
-ghost use Rattle.snap_topo.specs.Form.{IsInForm as IsTopology};
-ghost use Rattle.snap_route.specs.Tables.{AreRoutes};
+ghost use Rattle.snap_core.specs.Programs.{IsWellFormed};
+ghost use Rattle.snap_topology.specs.Form.{IsWellFormed as IsTopology};
+ghost use Rattle.snap_topology.specs.Tables.{AreRoutes};
 ghost use Rattle.snap_cli.specs.Causes.{OnlyReads};
 ghost use Rattle.snap_cli.specs.InputsSteps.{GivesInputs};
 ghost use Rattle.snap_cli.specs.Statuses.{RefusesWith};
@@ -36,7 +36,7 @@ pub(crate) fn load_inputs<'a, S: Shelf>(
     shelf: &mut S,
 ) -> Result<Inputs, Refusal<'a>>
     ensures gives { IfSome (S.files shelf.old) (λ files. GivesInputs files program.entry.now topology.entry.now last.entry.now result) }
-    ensures form { IfOk result (λ i. IsInForm i.program) }
+    ensures form { IfOk result (λ i. IsWellFormed i.program) }
     ensures topology { IfOk result (λ i. IsTopology i.network.topology) }
     ensures routes { IfOk result (λ i. AreRoutes i.network.topology i.network.routes) }
     ensures devices { OnlyReads (S.files shelf.old) (S.files shelf.new) (S.faults shelf.old) (S.faults shelf.new) result }

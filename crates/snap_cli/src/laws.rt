@@ -6,20 +6,20 @@ ghost use Rattle.snap_cli.specs.Laws.{AnswersExactly, ChangesExactly, ChecksExac
 use crate::deps::has_one_text;
 use snap_core::laws::has_one_listing;
 use snap_dep::laws::{has_one_rank, tied_is_equivalence};
-use snap_lex::laws::finds_once;
-use snap_move::laws::changed_reports_are_one;
+use snap_lex::laws::lexing_is_deterministic;
 use snap_order::laws as turns;
-use snap_parse::laws::yields_once;
-use snap_place::laws::printed_is_read;
-use snap_runs::laws::{plain_reports_are_one, schedules_run_one_way};
-use snap_tables::laws::texts_are_read_one_way;
+use snap_parse::laws::parsing_is_deterministic;
+use snap_placement::laws::printed_is_read;
+use snap_refinement::change_laws::changed_reports_are_one;
+use snap_runs::laws::{plain_reports_are_one, schedules_are_deterministic};
+use snap_tables::laws::reading_is_deterministic;
 
 /// A text spells one program at most, or is refused for one reason at one place, and not both.
 pub fn spells_one_program()
     ensures { SpellsOneProgram }
 {
-    finds_once();
-    yields_once();
+    lexing_is_deterministic();
+    parsing_is_deterministic();
 }
 
 /// A text is read as a program, and as a topology, exactly where it spells them, as the headline says it.
@@ -29,7 +29,7 @@ pub fn sources_are_spelled()
 
 /// A command deserves one ending at most on its files, but that any store and packet on which a program races, or two
 /// differ, may be told, and one text, but that `compile` may write each faithful tables.
-pub fn deserves_once()
+pub fn answers_are_deterministic()
     ensures ending { DeservesOneEnding }
     ensures text { DeservesOneText }
 {
@@ -38,13 +38,13 @@ pub fn deserves_once()
     has_one_text();
     tied_is_equivalence();
     has_one_rank();
-    texts_are_read_one_way();
+    reading_is_deterministic();
     plain_reports_are_one();
-    schedules_run_one_way();
+    schedules_are_deterministic();
     changed_reports_are_one();
     turns::plain_reports_are_one();
-    turns::schedules_run_one_way();
-    turns::rounds_run_one_way();
+    turns::schedules_are_deterministic();
+    turns::rounds_are_deterministic();
 }
 
 /// Where no device failed and memory was there, a call's status, output and message are those of the one ending that
@@ -52,7 +52,7 @@ pub fn deserves_once()
 pub fn answers_exactly()
     ensures { AnswersExactly }
 {
-    deserves_once();
+    answers_are_deterministic();
 }
 
 /// Where no device failed and memory was there, `check` of a program answers 0 just where evaluation is undefined on no
@@ -89,7 +89,7 @@ pub fn compiles_exactly()
 pub fn traces_exactly()
     ensures { TracesExactly }
 {
-    texts_are_read_one_way();
+    reading_is_deterministic();
     answers_exactly();
 }
 
@@ -100,7 +100,7 @@ pub fn traces_exactly()
 pub fn schedules_exactly()
     ensures { SchedulesExactly }
 {
-    texts_are_read_one_way();
+    reading_is_deterministic();
     answers_exactly();
 }
 
@@ -111,17 +111,17 @@ pub fn schedules_exactly()
 pub fn changes_exactly()
     ensures { ChangesExactly }
 {
-    texts_are_read_one_way();
+    reading_is_deterministic();
     answers_exactly();
 }
 
 /// Where no device failed and memory was there, `trace --ordered` of tables that a file spells answers 16 just where they are
 /// of version 1, with nothing written; and else 0 just where all lines of the packets file are in form and all lines of the
-/// schedule, if there is one, can be done to an end, with the report of that run in turn written.
+/// schedule, if there is one, can be done to an end, with the report of that run in order written.
 pub fn turns_exactly()
     ensures { TurnsExactly }
 {
-    texts_are_read_one_way();
+    reading_is_deterministic();
     answers_exactly();
 }
 
@@ -131,13 +131,13 @@ pub fn turns_exactly()
 pub fn rounds_exactly()
     ensures { RoundsExactly }
 {
-    texts_are_read_one_way();
+    reading_is_deterministic();
     answers_exactly();
 }
 
 /// **Where `compile` answered 0, `trace` of its output answers 0 too, or 14 where memory is short, unless a device failed,** if
 /// all lines of the packets file are in form and each packet names a port of the topology: one packet after another, in the
-/// order of each schedule that can be done to an end, and where `compile` had no `--on-demand` in turn and by rounds too. With
+/// order of each schedule that can be done to an end, and where `compile` had no `--on-demand` in order and by rounds too. With
 /// `--changes` so it is, with `--on-demand` or without, where the changes file is in form, each file of tables that it names is
 /// what `compile` wrote for a program declared like the first, and each packet names a port of the topology that is in force for it.
 pub fn traces_answer()

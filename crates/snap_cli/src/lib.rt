@@ -9,7 +9,7 @@ mod deps;
 mod diagram;
 mod equal;
 pub mod headline;
-mod in_turn;
+mod in_order;
 mod inputs;
 pub mod laws;
 mod network;

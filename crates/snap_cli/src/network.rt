@@ -2,8 +2,8 @@
 
 ghost use Rattle.std.specs.Prelude.{◌∷◌, [], IfErr, IfOk, IfSome};
 ghost use Rattle.snap_io.specs.Files.{file_of};
-ghost use Rattle.snap_topo.specs.Form.{IsInForm};
-ghost use Rattle.snap_route.specs.Tables.{AreRoutes};
+ghost use Rattle.snap_topology.specs.Form.{IsWellFormed};
+ghost use Rattle.snap_topology.specs.Tables.{AreRoutes};
 ghost use Rattle.snap_cli.specs.Causes.{OnlyReads};
 ghost use Rattle.snap_cli.specs.NetworkSteps.{GivesNetwork};
 ghost use Rattle.snap_cli.specs.Statuses.{RefusesWith};
@@ -12,9 +12,9 @@ use crate::refusal::Refusal;
 use crate::routes::refusal_of_routes;
 use crate::topology::load_topology;
 use snap_io::Shelf;
-use snap_route::calls::routes;
-use snap_route::table::Routes;
-use snap_topo::topology::Topology;
+use snap_topology::calls::routes;
+use snap_topology::table::Routes;
+use snap_topology::topology::Topology;
 use std::alloc::Global;
 
 /// A topology and its routes.
@@ -31,7 +31,7 @@ pub(crate) fn load_network<'a, S: Shelf>(
     name: &'a [u8],
 ) -> Result<Network, Refusal<'a>>
     ensures gives { IfSome (S.files shelf.old) (λ files. GivesNetwork name.entry.now (file_of files name.entry.now) result) }
-    ensures topology { IfOk result (λ n. IsInForm n.topology) }
+    ensures topology { IfOk result (λ n. IsWellFormed n.topology) }
     ensures routes { IfOk result (λ n. AreRoutes n.topology n.routes) }
     ensures devices { OnlyReads (S.files shelf.old) (S.files shelf.new) (S.faults shelf.old) (S.faults shelf.new) result }
     ensures statuses { IfErr result (RefusesWith (2 ∷ 6 ∷ 7 ∷ 8 ∷ [])) }

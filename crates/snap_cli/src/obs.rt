@@ -14,8 +14,8 @@ use crate::program::load_program;
 use crate::refusal::Refusal;
 use snap_core::program::Program;
 use snap_io::{Shelf, Sink};
-use snap_trace::TraceFault;
-use snap_trace::switch::one_switch;
+use snap_report::TraceFault;
+use snap_report::switch::one_switch;
 use std::alloc::Global;
 
 /// Writes the report of one big switch: the program over the packets file.

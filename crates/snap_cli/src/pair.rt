@@ -9,7 +9,7 @@ use snap_core::NoMemory;
 use snap_core::packet::Packet;
 use snap_core::program::Program;
 use snap_core::store::Store;
-use snap_trace::report::{put_arrays, put_fields};
+use snap_report::report::{put_arrays, put_fields};
 use std::alloc::Global;
 
 /// The message of a store and a packet of a program behind a first line.
@@ -26,7 +26,7 @@ pub(crate) fn pair_text(
     let listed = store.listing()?;
     let mut text = Vec::new(alloc);
     text.extend_from_slice(first)?;
-    put_arrays(&mut text, &program.vars, &listed)?;
+    put_arrays(&mut text, &program.arrays, &listed)?;
     text.extend_from_slice(b"packet")?;
     put_fields(&mut text, &program.fields, packet)?;
     Ok(text)

@@ -1,11 +1,11 @@
 //! The command `place`: a placement of least cost.
 
 ghost use Rattle.std.specs.Prelude.{◌≡◌, ◌∷◌, [], IfErr, IfOk, IfSome, length};
-ghost use Rattle.snap_core.specs.Programs.{IsInForm};
+ghost use Rattle.snap_core.specs.Programs.{IsWellFormed};
 ghost use Rattle.snap_dep.specs.Ranks.{IsGrouping};
-ghost use Rattle.snap_topo.specs.Form.{IsInForm as IsTopology};
-ghost use Rattle.snap_route.specs.Tables.{AreRoutes};
-ghost use Rattle.snap_seek.specs.Placements.{IsDemand};
+ghost use Rattle.snap_topology.specs.Form.{IsWellFormed as IsTopology};
+ghost use Rattle.snap_topology.specs.Tables.{AreRoutes};
+ghost use Rattle.snap_placement.specs.Placements.{IsDemand};
 ghost use Rattle.snap_words.specs.Commands.{place};
 ghost use Rattle.snap_cli.specs.Causes.{BlamesNoDevice, OnlyReads, ReadsAndWrites};
 ghost use Rattle.snap_cli.specs.Deserved.{Meets};
@@ -22,9 +22,8 @@ use snap_core::program::Program;
 use snap_dep::calls::groups;
 use snap_dep::groups::Groups;
 use snap_io::{Shelf, Sink, write_whole};
-use snap_place::print;
-use snap_seek::demand::{Demand, DemandFault};
-use snap_seek::{read_demand, seek};
+use snap_placement::demand::{Demand, DemandFault};
+use snap_placement::{print, read_demand, seek};
 use std::alloc::Global;
 
 /// Writes the placement of least cost for a program, a topology and a demand.
@@ -72,7 +71,7 @@ fn placement_of<'a>(
     network: &Network,
     text: &[u8],
 ) -> Result<Vec<u8>, Refusal<'a>>
-    requires program { IsInForm program }
+    requires program { IsWellFormed program }
     requires topology { IsTopology network.now.topology }
     requires routes { AreRoutes network.now.topology network.now.routes }
     ensures places { Places program network.now.topology network.now.routes text.now result }
@@ -84,7 +83,7 @@ fn placement_of<'a>(
             let text = best_text(alloc, &program, &groups, network, &demand)?;
             Ok(text)
         }
-        Err(fault) => Err(refusal_of_demand(program.vars, fault)),
+        Err(fault) => Err(refusal_of_demand(program.arrays, fault)),
     }
 }
 
@@ -113,7 +112,7 @@ fn best_text(
     network: &Network,
     demand: &Demand,
 ) -> Result<Vec<u8>, NoMemory>
-    requires groups { IsGrouping program.now.body (length program.now.vars) groups.now }
+    requires groups { IsGrouping program.now.body (length program.now.arrays) groups.now }
     requires topology { IsTopology network.now.topology }
     requires routes { AreRoutes network.now.topology network.now.routes }
     requires demand { IsDemand groups.now network.now.topology demand.now }
@@ -123,7 +122,7 @@ fn best_text(
     let best = seek(alloc, groups, &network.topology, &network.routes, demand)?;
     print(
         alloc,
-        &program.vars,
+        &program.arrays,
         &network.topology.switches,
         best.owners.items(),
         best.cost,

@@ -1,7 +1,7 @@
 //! The program of a file.
 
 ghost use Rattle.std.specs.Prelude.{◌≡◌, ◌≤◌, ◌∷◌, [], IfErr, IfOk, IfSome, length};
-ghost use Rattle.snap_core.specs.Programs.{IsBounded, IsInForm};
+ghost use Rattle.snap_core.specs.Programs.{IsBounded, IsWellFormed};
 ghost use Rattle.snap_io.specs.Files.{file_of};
 ghost use Rattle.snap_cli.specs.Causes.{BlamesNoDevice, OnlyReads};
 ghost use Rattle.snap_cli.specs.Spots.{spot_of};
@@ -29,7 +29,7 @@ pub(crate) fn load_program<'a, S: Shelf>(
 ) -> Result<Program, Refusal<'a>>
     ensures gives { IfSome (S.files shelf.old) (λ files. GivesProgram name.entry.now (file_of files name.entry.now) result) }
     ensures bounded { IfOk result IsBounded }
-    ensures form { IfOk result IsInForm }
+    ensures form { IfOk result IsWellFormed }
     ensures devices { OnlyReads (S.files shelf.old) (S.files shelf.new) (S.faults shelf.old) (S.faults shelf.new) result }
     ensures statuses { IfErr result (RefusesWith (2 ∷ 4 ∷ 5 ∷ 6 ∷ [])) }
 {
@@ -42,7 +42,7 @@ pub(crate) fn read_program<'a>(alloc: Global, text: &[u8]) -> Result<Program, Re
     requires { length text.now ≤ 262144 }
     ensures gives { SpellsProgram text.now result }
     ensures bounded { IfOk result IsBounded }
-    ensures form { IfOk result IsInForm }
+    ensures form { IfOk result IsWellFormed }
     ensures devices { IfErr result BlamesNoDevice }
 {
     let tokens = match tokens(alloc, text) {

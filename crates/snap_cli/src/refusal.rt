@@ -9,7 +9,7 @@ ghost use Rattle.snap_cli.specs.declared.refusal.Refusal.TheVariants as refused;
 ghost use Rattle.snap_cli.specs.Messages.{bytes_of};
 ghost use Rattle.snap_cli.specs.Refusals.{message_naming, message_of, message_of_demand, message_of_placement, message_of_tables, message_of_topology, message_text, message_with, naming_text, rule_text, status_of, syntax_text, which_text};
 
-use crate::spot::Spot;
+use crate::spot::Position;
 use itoa::Buffer;
 use snap_core::NoMemory;
 use snap_core::lists::{Name, Names};
@@ -120,10 +120,10 @@ pub enum Refusal<'a> {
     Write,
 
     /// The program's text has no tokens or no tree.
-    Syntax { fault: SyntaxFault, spot: Spot },
+    Syntax { fault: SyntaxFault, spot: Position },
 
     /// A naming rule is broken.
-    Naming { fault: NamingFault, spot: Spot },
+    Naming { fault: NamingFault, spot: Position },
 
     /// A counted quantity passes its limit.
     Limit { which: Which, count: u64 },
@@ -254,7 +254,7 @@ enum Message<'m> {
 
     // `snapc: LINE:COLUMN: TEXT`
     At {
-        spot: Spot,
+        spot: Position,
         text: &'m [u8],
     },
 
@@ -488,7 +488,7 @@ impl Refusal<'_> {
     /// # Errors
     ///
     /// `WriteFailed` where the sink failed; some first bytes went out then, and no others.
-    pub fn tell<E: Sink>(&self, err: &mut E) -> Result<(), WriteFailed>
+    pub fn print<E: Sink>(&self, err: &mut E) -> Result<(), WriteFailed>
         ensures ok { OnOk result (Appends (E.taken err.old) (E.taken err.new) (message_of (Err self.now))) }
         ensures err { OnErr result (AppendsPart (E.taken err.old) (E.taken err.new) (message_of (Err self.now))) }
         ensures cause { HasCause (E.faults err.old) (E.faults err.new) result }

@@ -6,7 +6,7 @@ ghost use Rattle.snap_cli.specs.RoundsSteps.{MeetsByRounds, MeetsRounds};
 ghost use Rattle.snap_cli.specs.Statuses.{EndsWith, statuses_of_trace};
 ghost use Rattle.snap_words.specs.Commands.{rounds, plain};
 
-use crate::in_turn::has_turns;
+use crate::in_order::has_turns;
 use crate::obs::refusal_of_run;
 use crate::refusal::Refusal;
 use snap_io::{Shelf, Sink};

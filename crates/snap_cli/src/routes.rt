@@ -4,8 +4,8 @@ ghost use Rattle.std.specs.Prelude.{◌≡◌, ◌≢◌, ◌<◌, ◌≤◌, �
 ghost use Rattle.std.specs.Io.KnownBytes.{Appends};
 ghost use Rattle.snap_io.specs.Causes.{HasCause};
 ghost use Rattle.snap_io.specs.Sinks.{AppendsPart};
-ghost use Rattle.snap_topo.specs.Form.{IsInForm};
-ghost use Rattle.snap_route.specs.Tables.{switch_count};
+ghost use Rattle.snap_topology.specs.Form.{IsWellFormed};
+ghost use Rattle.snap_topology.specs.Tables.{switch_count};
 ghost use Rattle.snap_words.specs.Commands.{routes};
 ghost use Rattle.snap_cli.specs.Causes.{OnlyWrites, ReadsAndWrites};
 ghost use Rattle.snap_cli.specs.Deserved.{Meets};
@@ -19,9 +19,9 @@ use itoa::Buffer;
 use snap_core::NoMemory;
 use snap_core::lists::Names;
 use snap_io::{Shelf, Sink, WriteFailed, write_pieces, write_whole};
-use snap_route::calls::routes;
-use snap_route::table::{RouteFault, Routes};
-use snap_topo::topology::Topology;
+use snap_topology::calls::routes;
+use snap_topology::table::{RouteFault, Routes};
+use snap_topology::topology::Topology;
 use std::alloc::Global;
 
 /// Writes the distances and next hops between the switches of the topology in the file with this name.
@@ -43,7 +43,7 @@ pub(crate) fn report<'a, S: Shelf, O: Sink>(
 
 // Writes the routes of a topology that was read.
 fn report_of<'a, O: Sink>(alloc: Global, topology: Topology, out: &mut O) -> Result<(), Refusal<'a>>
-    requires { IsInForm topology }
+    requires { IsWellFormed topology }
     ensures meets { MeetsTopology topology result (O.taken out.old) (O.taken out.new) }
     ensures devices { OnlyWrites (O.faults out.old) (O.faults out.new) result }
 {

@@ -11,9 +11,9 @@ use crate::obs::refusal_of_run;
 use crate::refusal::Refusal;
 use snap_core::program::Which;
 use snap_io::{Shelf, Sink};
+use snap_report::switch::MOST_BYTES;
 use snap_rows::valid::Valid;
 use snap_runs::schedule::{ScheduleFault, scheduled};
-use snap_trace::switch::MOST_BYTES;
 use std::alloc::Global;
 
 /// Writes the report of tables that were read, over the packets file, in the order of the schedule with this name.

@@ -59,7 +59,7 @@ pub fn snap<R: Threads + Sync, S: Shelf, O: Sink, E: Sink>(
     match ending {
         Ok(()) => 0,
         Err(refusal) => {
-            let _ = refusal.tell(err);
+            let _ = refusal.print(err);
             refusal.status()
         }
     }

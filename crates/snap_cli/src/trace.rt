@@ -10,7 +10,7 @@ ghost use Rattle.snap_cli.specs.TraceSteps.{MeetsOrder, MeetsTrace};
 ghost use Rattle.snap_cli.specs.Statuses.{EndsWith, statuses_of_trace};
 
 use crate::changes::report_changed;
-use crate::in_turn::report_in_turn;
+use crate::in_order::report_ordered;
 use crate::obs::refusal_of_run;
 use crate::refusal::Refusal;
 use crate::rounds::report_by_rounds;
@@ -68,8 +68,8 @@ fn report_in_order<'a, R: Threads + Sync, S: Shelf, O: Sink>(
             report_scheduled(alloc, tables, packets, file, hops, shelf, out)
         }
         Order::Changes { file } => report_changed(alloc, tables, packets, file, hops, shelf, out),
-        Order::InTurn { schedule } => {
-            report_in_turn(alloc, tables, packets, schedule, hops, shelf, out)
+        Order::InOrder { schedule } => {
+            report_ordered(alloc, tables, packets, schedule, hops, shelf, out)
         }
         Order::Rounds { workers } => {
             report_by_rounds(rt, alloc, tables, packets, workers, hops, shelf, out)

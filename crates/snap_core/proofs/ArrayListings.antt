@@ -59,28 +59,28 @@ IsListing-none m none = record { rising = tt; nonzero = All-nil (λ (e : Entry).
 -- a listing of the arrays below n
 pub record AreBelow (n : ℕ) (m : Arrays) (es : List Entry) : Type 0 where
   pub listing : IsListing m es
-  pub vars : All (λ e. e.place.var < n) es
+  pub arrays : All (λ e. e.place.var < n) es
 
 pub listing_none : (m : Arrays) → ((p : Place) → m p ≡ 0) → AreBelow 0 m []
-listing_none m none = record { listing = IsListing-none m none; vars = All-nil (λ (e : Entry). e.place.var < 0) }
+listing_none m none = record { listing = IsListing-none m none; arrays = All-nil (λ (e : Entry). e.place.var < 0) }
 
 pub listing_more : (n : ℕ) (m other m' : Arrays) (es fs : List Entry) → AreBelow n m es → IsArrayListing n other fs → ((p : Place) → m' p ≡ (if n == p.var then other p else m p)) → AreBelow (n + 1) m' (es ++ fs)
 listing_more n m other m' es fs below array after = record {
   listing = record {
     rising = subst (IsStrictlySortedBy place_cmp) (sym (places_append es fs))
-        (rising_append (places es) (places fs) below.listing.rising array.listing.rising (each_less n es fs below.vars array.vars));
+        (rising_append (places es) (places fs) below.listing.rising array.listing.rising (each_less n es fs below.arrays array.arrays));
     nonzero = All-append (λ (e : Entry). e.value ≢ 0) es fs below.listing.nonzero array.listing.nonzero;
     numbers = λ p. by p (n == p.var) refl ∙ sym (after p);
   };
-  vars = All-append (λ (e : Entry). e.place.var < n + 1) es fs
-      (All-weaker (λ (e : Entry). e.place.var < n) (λ (e : Entry). e.place.var < n + 1) (λ e low. omega (arith, low)) es below.vars)
-      (All-weaker (λ (e : Entry). e.place.var ≡ n) (λ (e : Entry). e.place.var < n + 1) (λ e same. omega (arith, same)) fs array.vars);
+  arrays = All-append (λ (e : Entry). e.place.var < n + 1) es fs
+      (All-weaker (λ (e : Entry). e.place.var < n) (λ (e : Entry). e.place.var < n + 1) (λ e low. omega (arith, low)) es below.arrays)
+      (All-weaker (λ (e : Entry). e.place.var ≡ n) (λ (e : Entry). e.place.var < n + 1) (λ e same. omega (arith, same)) fs array.arrays);
 }
   where
     by : (p : Place) (t : Bool) → (n == p.var) ≡ t → number_in (es ++ fs) p ≡ (if t then other p else m p)
     by p true e =
         let same : n ≡ p.var = eqb-true n p.var e in
-        number_behind es fs p (subst (λ x. All (λ (e : Entry). e.place.var < x) es) same below.vars)
+        number_behind es fs p (subst (λ x. All (λ (e : Entry). e.place.var < x) es) same below.arrays)
         ∙ array.listing.numbers p
         ∙ ap (λ t. if t then other p else 0) e
     by p false e =
@@ -89,7 +89,7 @@ listing_more n m other m' es fs below array after = record {
 
 -- ---- one array of a store, behind what is listed
 pub lists-none : (s : ℕ) (m : Kept) (es : List Entry) → length m ≤ s → ListsArray s (arrays_of m) es es
-lists-none s m es high = ([], sym (append-nil es), record { listing = IsListing-none (array_of s (arrays_of m)) (λ p. none p (nat_eq s p.var) refl); vars = All-nil (λ (e : Entry). e.place.var ≡ s) })
+lists-none s m es high = ([], sym (append-nil es), record { listing = IsListing-none (array_of s (arrays_of m)) (λ p. none p (nat_eq s p.var) refl); arrays = All-nil (λ (e : Entry). e.place.var ≡ s) })
   where
     none : (p : Place) (t : Bool) → nat_eq s p.var ≡ t → cond t (arrays_of m p) 0 ≡ 0
     none p true e = ap (λ a. unwrap_or (cell a.0 p.index) 0) (ap (array_at m) (sym (eqb-true s p.var e)) ∙ get_or_past m s ([], 0) high)

@@ -35,8 +35,8 @@ IsDistinct-cells_of (e ∷ es) h = (apart_keys e.0 es h.0, IsDistinct-cells_of e
 pub IsDistinct-ordered : (es : List (Vec ℕ × ℕ)) → IsStrictlySortedBy key_cmp (keys_of es) → IsDistinct bytes_eq (keys_of (cells_of es))
 IsDistinct-ordered es h = IsDistinct-cells_of es (subst (λ e. IsDistinct e (keys_of es)) (λ i x y. is_eq-slice_cmp x.items y.items i) (IsDistinct-from_sorted key_cmp (keys_of es) h))
 
-pub IsDistinct-vars : {X : Type 0} (es : List (ℕ × X)) → IsStrictlySortedBy nat_cmp (keys_of es) → IsDistinct nat_eq (keys_of es)
-IsDistinct-vars es h = subst (λ e. IsDistinct e (keys_of es)) (λ i x y. unsigned_tied x y i) (IsDistinct-from_sorted nat_cmp (keys_of es) h)
+pub IsDistinct-arrays : {X : Type 0} (es : List (ℕ × X)) → IsStrictlySortedBy nat_cmp (keys_of es) → IsDistinct nat_eq (keys_of es)
+IsDistinct-arrays es h = subst (λ e. IsDistinct e (keys_of es)) (λ i x y. unsigned_tied x y i) (IsDistinct-from_sorted nat_cmp (keys_of es) h)
 
 -- ---- another order
 pub lookup-reordered : {K X : Type 0} {eq : K → K → Bool} → IsEquivalence eq → ((x y : K) → eq x y ≡ true → x ≡ y) → (es fs : List (K × X)) → IsPermutation es fs → IsDistinct eq (keys_of fs) → (q : K) → lookup (eq q) fs ≡ lookup (eq q) es

@@ -86,12 +86,12 @@ NoZero-entries_of s (c ∷ cs) = by_zero (nat_eq c.1 0) refl (NoZero-entries_of 
     by_zero true z h = h
     by_zero false z h = All-cons (λ (e : Entry). e.value ≢ 0) (entry s c.0 c.1) (entries_of s cs) (eqb-false c.1 0 z) h
 
-pub vars-entries_of : (s : ℕ) (cs : Cells) → All (λ e. e.place.var ≡ s) (entries_of s cs)
-vars-entries_of s [] = All-nil (λ (e : Entry). e.place.var ≡ s)
-vars-entries_of s (c ∷ cs) =
+pub arrays-entries_of : (s : ℕ) (cs : Cells) → All (λ e. e.place.var ≡ s) (entries_of s cs)
+arrays-entries_of s [] = All-nil (λ (e : Entry). e.place.var ≡ s)
+arrays-entries_of s (c ∷ cs) =
     elim (nat_eq c.1 0) as (λ t. All (λ e. e.place.var ≡ s) (cond t (entries_of s cs) (entry s c.0 c.1 ∷ entries_of s cs))) [
-      | true ↦ vars-entries_of s cs
-      | false ↦ All-cons (λ (e : Entry). e.place.var ≡ s) (entry s c.0 c.1) (entries_of s cs) refl (vars-entries_of s cs)
+      | true ↦ arrays-entries_of s cs
+      | false ↦ All-cons (λ (e : Entry). e.place.var ≡ s) (entry s c.0 c.1) (entries_of s cs) refl (arrays-entries_of s cs)
     ]
 
 -- what holds of the place of each cell holds of the place of each entry

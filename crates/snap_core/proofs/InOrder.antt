@@ -20,7 +20,7 @@ use Rattle.snap_core.specs.Arrays.{Arrays, same_place}
 use Rattle.snap_core.specs.Cells.{Kept, array_at, arrays_of}
 use Rattle.snap_core.specs.Listing.{place_cmp, number_in, array_of, entries_of, entry_of, listed_cmp, IsListing, IsArrayListing}
 use Rattle.snap_core.proofs.CellMerge.{lookup-reordered, unwrap-cond}
-use Rattle.snap_core.proofs.Entries.{places, NoZero, NoZero-entries_of, vars-entries_of, IsDistinct-entries_of, number-here, number-other}
+use Rattle.snap_core.proofs.Entries.{places, NoZero, NoZero-entries_of, arrays-entries_of, IsDistinct-entries_of, number-here, number-other}
 use Rattle.snap_core.proofs.Places.{place_total, place_exact, same_place-exact, same_place-itself, same_place-flips, same_place_equiv}
 
 -- ---- lists of values with a key
@@ -112,7 +112,7 @@ IsArrayListing-sorted s m ls ms distinct all moved sorted =
           (each NoZero (NoZero-entries_of s cs))
           (λ p. ap (λ es. number_in es p) all ∙ number p (nat_eq s p.var) refl)
           moved sorted;
-      vars = All-permutation (λ (e : Entry). e.place.var ≡ s) (map entry_of ls) (map entry_of ms) (IsPermutation-map entry_of ls ms moved) (each (All (λ e. e.place.var ≡ s)) (vars-entries_of s cs));
+      arrays = All-permutation (λ (e : Entry). e.place.var ≡ s) (map entry_of ls) (map entry_of ms) (IsPermutation-map entry_of ls ms moved) (each (All (λ e. e.place.var ≡ s)) (arrays-entries_of s cs));
     }
   where
     number : (p : Place) (t : Bool) → nat_eq s p.var ≡ t → number_in (entries_of s (array_at m s).0) p ≡ cond t (arrays_of m p) 0

@@ -33,7 +33,7 @@ put m p v q = if same_place p q then v else m q
 
 -- m, with the arrays of a set of variables as they are in n
 abbrev pub taken : Arrays → Arrays → ℕ → Arrays
-taken m n vars p = if has vars p.var then n p else m p
+taken m n arrays p = if has arrays p.var then n p else m p
 
 -- m, with one array as it is in n
 abbrev pub with_array : Arrays → Arrays → ℕ → Arrays

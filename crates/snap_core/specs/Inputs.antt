@@ -14,10 +14,10 @@ pub record IsPacket (comps : ℕ) (k : List ℕ) : Type 0 where
 
 -- 0 at each variable from this one on
 abbrev pub IsZeroFrom : ℕ → Arrays → Type 0
-IsZeroFrom vars m = (q : Place) → vars ≤ q.var → m q ≡ 0
+IsZeroFrom arrays m = (q : Place) → arrays ≤ q.var → m q ≡ 0
 
 -- a store over so many variables, and a packet of so many components
-pub record IsInput (comps vars : ℕ) (m : Arrays) (k : List ℕ) : Type 0 where
+pub record IsInput (comps arrays : ℕ) (m : Arrays) (k : List ℕ) : Type 0 where
   pub store : IsStore m
-  pub only : IsZeroFrom vars m
+  pub only : IsZeroFrom arrays m
   pub packet : IsPacket comps k

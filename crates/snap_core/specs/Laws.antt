@@ -20,7 +20,7 @@ KeepsUnwritten = (p : Pol) (m : Arrays) (k : List ℕ) (o : Meaning)
 
 -- n is as m is at each variable of a set
 abbrev pub AgreesOn : ℕ → Arrays → Arrays → Type 0
-AgreesOn vars m n = (q : Place) → has vars q.var ≡ true → n q ≡ m q
+AgreesOn arrays m n = (q : Place) → has arrays q.var ≡ true → n q ≡ m q
 
 -- an evaluation depends on the variables of its logs alone: from other arrays that agree on them it does the same, and leaves
 -- the rest of these as it is

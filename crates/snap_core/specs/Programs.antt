@@ -38,15 +38,15 @@ pub record HasOneArity (p : Pol) : Type 0 where
 
 -- a program in form: its fields are fields, its names are different names of the language, its body has no other component or
 -- variable, and each variable is indexed in one way
-pub record IsInForm (p : Program) : Type 0 where
+pub record IsWellFormed (p : Program) : Type 0 where
   pub fields : IsFields p.fields
-  pub names : All IsName (names_of p.fields ++ p.vars)
-  pub different : IsDistinct bytes_eq (names_of p.fields ++ p.vars)
-  pub few : length p.vars ≤ 64
-  pub fits : PolFits (count p.fields) (length p.vars) p.body
+  pub names : All IsName (names_of p.fields ++ p.arrays)
+  pub different : IsDistinct bytes_eq (names_of p.fields ++ p.arrays)
+  pub few : length p.arrays ≤ 64
+  pub fits : PolFits (count p.fields) (length p.arrays) p.body
   pub indices : HasOneArity p.body
 
 -- no more than 64 arrays, and the body has no component or array beyond the program's
 pub record IsBounded (p : Program) : Type 0 where
-  pub few : length p.vars ≤ 64
-  pub fits : PolFits (count p.fields) (length p.vars) p.body
+  pub few : length p.arrays ≤ 64
+  pub fits : PolFits (count p.fields) (length p.arrays) p.body

@@ -2,9 +2,9 @@
 use Rattle.std.specs.Prelude.{ℕ, List, [], ◌∷◌, Option, Some, None, map, bit_or, option_map, option_and_then, if◌then◌else◌}
 use Rattle.snap_core.specs.declared.copies.Copies.{Copies}
 use Rattle.snap_core.specs.declared.copies.Copies.TheVariants.{One, Many}
-use Rattle.snap_core.specs.declared.copies.Flow.{Flow}
-use Rattle.snap_core.specs.declared.copies.Flow.TheVariants.{Same}
-use Rattle.snap_core.specs.declared.copies.Flow.TheVariants as flow
+use Rattle.snap_core.specs.declared.copies.Effect.{Effect}
+use Rattle.snap_core.specs.declared.copies.Effect.TheVariants.{Same}
+use Rattle.snap_core.specs.declared.copies.Effect.TheVariants as flow
 use Rattle.snap_core.specs.declared.policy.Pol.{Pol}
 use Rattle.snap_core.specs.declared.policy.Pred.{Pred}
 use Rattle.snap_core.specs.declared.run.Ran.{Ran}
@@ -24,7 +24,7 @@ abbrev pub meaning_with : Arrays → Run → Meaning
 meaning_with m r = record { arrays = m; packets = set_in r.copies; reads = r.reads; writes = r.writes }
 
 -- ---- in place
-abbrev pub set_after : Flow → List ℕ → PacketSet
+abbrev pub set_after : Effect → List ℕ → PacketSet
 set_after Same k = with_packet no_packets k
 set_after (flow.Many v) k = with_packets no_packets v.items
 
@@ -33,7 +33,7 @@ abbrev pub ran_with : Arrays → List ℕ → Ran → Meaning
 ran_with m k r = record { arrays = m; packets = set_after r.flow k; reads = r.reads; writes = r.writes }
 
 -- what a policy came to, within a run with these logs, that left the arrays m and the packet k
-abbrev pub flown : Arrays → Flow → List ℕ → Logs → Meaning
+abbrev pub flown : Arrays → Effect → List ℕ → Logs → Meaning
 flown m f k l = record { arrays = m; packets = set_after f k; reads = l.reads; writes = l.writes }
 
 -- an outcome within a run with these logs

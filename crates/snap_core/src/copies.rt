@@ -18,7 +18,7 @@ pub enum Copies {
 
 /// What a policy makes of a packet that it changes in place.
 #[derive(Drop)]
-pub enum Flow {
+pub enum Effect {
     /// The packet alone, as it now is.
     Same,
 
@@ -26,14 +26,14 @@ pub enum Flow {
     Many(Vec<Packet>),
 }
 
-impl Flow {
+impl Effect {
     /// The packets, where the packet in place now is this one.
     pub(crate) fn copies(self, packet: Packet) -> Copies
         ensures { set_in result ≡ set_after self packet }
     {
         match self {
-            Flow::Same => Copies::One(packet),
-            Flow::Many(packets) => Copies::Many(packets),
+            Effect::Same => Copies::One(packet),
+            Effect::Many(packets) => Copies::Many(packets),
         }
     }
 }

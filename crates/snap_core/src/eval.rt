@@ -14,7 +14,7 @@ ghost use Rattle.snap_core.specs.Runs.{after_first, both_of, choice_of, each_of,
 
 use crate::NoMemory;
 use crate::atoms::{fill_index, index_on};
-use crate::copies::Flow;
+use crate::copies::Effect;
 use crate::lists::Atoms;
 use crate::outcome::{EvalFault, Outcome};
 use crate::packet::Packet;
@@ -128,7 +128,7 @@ fn pass(
     store: &mut Store,
     packet: &mut Packet,
     logs: &mut Logs,
-) -> Result<Flow, EvalFault>
+) -> Result<Effect, EvalFault>
     requires { PolFits (length packet.old) 64 pol.now }
     ensures ok { IfOk result (λ f. within logs.old (eval pol.now (arrays_of store.old) packet.old) ≡ Some (flown (arrays_of store.new) f packet.new logs.new)) }
     ensures undefined { result ≡ Err EvalFault.Undefined → eval pol.now (arrays_of store.old) packet.old ≡ None }
@@ -140,7 +140,7 @@ fn pass(
         Pol::Set { comp, from } => Ok(set(*comp, *from, packet)),
         Pol::Change(update) => change(update, store, packet, logs),
         Pol::Par(left, right) => both(alloc, left, right, store, packet, logs),
-        Pol::Seq(first, second) => in_turn(alloc, first, second, store, packet, logs),
+        Pol::Seq(first, second) => sequence(alloc, first, second, store, packet, logs),
         Pol::If(test, yes, no) => {
             let branch = last_branch(alloc, test, yes, no, store, packet, logs)?;
             pass(alloc, branch, store, packet, logs)
@@ -159,7 +159,7 @@ fn both(
     store: &mut Store,
     packet: &Packet,
     logs: &mut Logs,
-) -> Result<Flow, EvalFault>
+) -> Result<Effect, EvalFault>
     requires left { PolFits (length packet.now) 64 left.now }
     requires right { PolFits (length packet.now) 64 right.now }
     ensures ok { IfOk result (λ f. within logs.old (both_of left.now right.now (arrays_of store.old) packet.now) ≡ Some (flown (arrays_of store.new) f packet.now logs.new)) }
@@ -192,14 +192,14 @@ fn run_both(
 
 // A policy, and another on each packet that it gives.
 #[cycle(eval)]
-fn in_turn(
+fn sequence(
     alloc: Global,
     first: &Pol,
     second: &Pol,
     store: &mut Store,
     packet: &mut Packet,
     logs: &mut Logs,
-) -> Result<Flow, EvalFault>
+) -> Result<Effect, EvalFault>
     requires first { PolFits (length packet.old) 64 first.now }
     requires second { PolFits (length packet.old) 64 second.now }
     ensures ok { IfOk result (λ f. within logs.old (sequence_of first.now second.now (arrays_of store.old) packet.old) ≡ Some (flown (arrays_of store.new) f packet.new logs.new)) }
@@ -285,8 +285,8 @@ fn each(
     store: &mut Store,
     packet: &mut Packet,
     logs: &mut Logs,
-    flow: Flow,
-) -> Result<Flow, EvalFault>
+    flow: Effect,
+) -> Result<Effect, EvalFault>
     requires fits { PolFits (length packet.old) 64 pol.now }
     requires lengths { AllLong (length packet.old) (set_after flow packet.old) }
     ensures ok { IfOk result (λ f. within logs.old (each_of pol.now (arrays_of store.old) (listed (set_after flow packet.old))) ≡ Some (flown (arrays_of store.new) f packet.new logs.new)) }
@@ -295,8 +295,8 @@ fn each(
     ensures length { length packet.new ≡ length packet.old }
 {
     match flow {
-        Flow::Same => pass(alloc, pol, store, packet, logs),
-        Flow::Many(packets) => on_all(alloc, pol, store, packet, logs, packets),
+        Effect::Same => pass(alloc, pol, store, packet, logs),
+        Effect::Many(packets) => on_all(alloc, pol, store, packet, logs, packets),
     }
 }
 
@@ -310,7 +310,7 @@ fn on_all(
     packet: &Packet,
     logs: &mut Logs,
     packets: Vec<Packet>,
-) -> Result<Flow, EvalFault>
+) -> Result<Effect, EvalFault>
     requires fits { PolFits (length packet.now) 64 pol.now }
     requires lengths { AllLong (length packet.now) (with_packets no_packets packets.items) }
     ensures ok { IfOk result (λ f. within logs.old (each_of pol.now (arrays_of store.old) (listed (with_packets no_packets packets.items))) ≡ Some (flown (arrays_of store.new) f packet.now logs.new)) }
@@ -352,20 +352,20 @@ fn filter(
     store: &Store,
     packet: &Packet,
     logs: &mut Logs,
-) -> Result<Flow, EvalFault>
+) -> Result<Effect, EvalFault>
     requires { PredFits (length packet.now) 64 pred.now }
     ensures ok { IfOk result (λ f. within logs.old (eval (Filter pred.now) (arrays_of store.now) packet.now) ≡ Some (flown (arrays_of store.now) f packet.now logs.new)) }
     ensures memory { IfErr result (λ e. e ≡ EvalFault.NoMemory) }
     ensures lengths { IfOk result (λ f. AllLong (length packet.now) (set_after f packet.now)) }
 {
     if tested(alloc, pred, store, packet, logs)? {
-        Ok(Flow::Same)
+        Ok(Effect::Same)
     } else {
-        Ok(Flow::Many(Vec::new(alloc)))
+        Ok(Effect::Many(Vec::new(alloc)))
     }
 }
 
-fn set(comp: u16, from: Atom, packet: &mut Packet) -> Flow
+fn set(comp: u16, from: Atom, packet: &mut Packet) -> Effect
     requires comp { comp < length packet.old }
     requires from { AtomFits (length packet.old) from }
     ensures ok { (m : Arrays) (l : LogsData) → within l (eval (Set comp from) m packet.old) ≡ Some (flown m result packet.new l) }
@@ -374,7 +374,7 @@ fn set(comp: u16, from: Atom, packet: &mut Packet) -> Flow
 {
     let number = from.value(packet);
     packet.set(comp, number);
-    Flow::Same
+    Effect::Same
 }
 
 fn change(
@@ -382,7 +382,7 @@ fn change(
     store: &mut Store,
     packet: &Packet,
     logs: &mut Logs,
-) -> Result<Flow, EvalFault>
+) -> Result<Effect, EvalFault>
     requires { UpdateFits (length packet.now) 64 update.now }
     ensures ok { IfOk result (λ f. within logs.old (eval (Change update.now) (arrays_of store.old) packet.now) ≡ Some (flown (arrays_of store.new) f packet.now logs.new)) }
     ensures memory { IfErr result (λ e. e ≡ EvalFault.NoMemory) }
@@ -390,7 +390,7 @@ fn change(
 {
     store.update(packet, update)?;
     logs.writes |= bit(update.var);
-    Ok(Flow::Same)
+    Ok(Effect::Same)
 }
 
 // The set of one variable.

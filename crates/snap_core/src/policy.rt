@@ -88,18 +88,18 @@ fn index_fits(index: &Atoms, comps: usize) -> bool
 
 impl Pred {
     /// Whether each component and each variable is below these numbers.
-    pub fn fits(&self, comps: usize, vars: usize) -> bool
-        ensures { IsTrue result ↔ PredFits comps vars self.now }
+    pub fn fits(&self, comps: usize, arrays: usize) -> bool
+        ensures { IsTrue result ↔ PredFits comps arrays self.now }
     {
         match self {
             Pred::Id | Pred::Drop => true,
             Pred::Field { comp, .. } => (*comp as usize) < comps,
             Pred::State { var, index, value } => {
-                (*var as usize) < vars && index_fits(index, comps) && value.fits(comps)
+                (*var as usize) < arrays && index_fits(index, comps) && value.fits(comps)
             }
-            Pred::Not(part) => part.fits(comps, vars),
-            Pred::And(left, right) => left.fits(comps, vars) && right.fits(comps, vars),
-            Pred::Or(left, right) => left.fits(comps, vars) && right.fits(comps, vars),
+            Pred::Not(part) => part.fits(comps, arrays),
+            Pred::And(left, right) => left.fits(comps, arrays) && right.fits(comps, arrays),
+            Pred::Or(left, right) => left.fits(comps, arrays) && right.fits(comps, arrays),
         }
     }
 }
@@ -118,28 +118,28 @@ impl Op {
 
 impl Update {
     /// Whether each component and each variable is below these numbers. Takes no memory.
-    pub fn fits(&self, comps: usize, vars: usize) -> bool
-        ensures { IsTrue result ↔ UpdateFits comps vars self.now }
+    pub fn fits(&self, comps: usize, arrays: usize) -> bool
+        ensures { IsTrue result ↔ UpdateFits comps arrays self.now }
     {
-        (self.var as usize) < vars && index_fits(&self.index, comps) && self.op.fits(comps)
+        (self.var as usize) < arrays && index_fits(&self.index, comps) && self.op.fits(comps)
     }
 }
 
 impl Pol {
     /// Whether each component and each variable is below these numbers.
-    pub fn fits(&self, comps: usize, vars: usize) -> bool
-        ensures { IsTrue result ↔ PolFits comps vars self.now }
+    pub fn fits(&self, comps: usize, arrays: usize) -> bool
+        ensures { IsTrue result ↔ PolFits comps arrays self.now }
     {
         match self {
-            Pol::Filter(pred) => pred.fits(comps, vars),
+            Pol::Filter(pred) => pred.fits(comps, arrays),
             Pol::Set { comp, from } => (*comp as usize) < comps && from.fits(comps),
-            Pol::Change(update) => update.fits(comps, vars),
-            Pol::Par(left, right) => left.fits(comps, vars) && right.fits(comps, vars),
-            Pol::Seq(first, second) => first.fits(comps, vars) && second.fits(comps, vars),
+            Pol::Change(update) => update.fits(comps, arrays),
+            Pol::Par(left, right) => left.fits(comps, arrays) && right.fits(comps, arrays),
+            Pol::Seq(first, second) => first.fits(comps, arrays) && second.fits(comps, arrays),
             Pol::If(test, yes, no) => {
-                test.fits(comps, vars) && yes.fits(comps, vars) && no.fits(comps, vars)
+                test.fits(comps, arrays) && yes.fits(comps, arrays) && no.fits(comps, arrays)
             }
-            Pol::Atomic(part) => part.fits(comps, vars),
+            Pol::Atomic(part) => part.fits(comps, arrays),
         }
     }
 }

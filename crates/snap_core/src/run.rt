@@ -7,7 +7,7 @@ ghost use Rattle.snap_core.specs.Meaning.{Meaning, clash, logged};
 ghost use Rattle.snap_core.specs.Runs.{after_both, begun_behind, flown, meaning_with};
 
 use crate::NoMemory;
-use crate::copies::{Copies, Flow};
+use crate::copies::{Copies, Effect};
 use crate::outcome::EvalFault;
 use std::alloc::Global;
 
@@ -29,7 +29,7 @@ pub struct Run {
 /// What became of a packet that was changed in place, and the variables that were read and written, a bit each.
 #[derive(Drop)]
 pub struct Ran {
-    pub flow: Flow,
+    pub flow: Effect,
     pub reads: u64,
     pub writes: u64,
 }
@@ -77,11 +77,11 @@ impl Run {
     }
 
     /// What the run gives within another, which has these logs.
-    pub(crate) fn within(self, alloc: Global, logs: &mut Logs) -> Result<Flow, NoMemory>
+    pub(crate) fn within(self, alloc: Global, logs: &mut Logs) -> Result<Effect, NoMemory>
         ensures { (m : Arrays) (k : List ℕ) → IfOk result (λ flow. flown m flow k logs.new ≡ logged logs.old.reads logs.old.writes (meaning_with m self)) }
     {
         logs.reads |= self.reads;
         logs.writes |= self.writes;
-        Ok(Flow::Many(self.copies.into_vec(alloc)?))
+        Ok(Effect::Many(self.copies.into_vec(alloc)?))
     }
 }

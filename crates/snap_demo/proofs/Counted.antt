@@ -10,14 +10,14 @@ use Rattle.snap_rows.specs.declared.head.Sent.{Sent}
 use Rattle.snap_rows.specs.Happenings.{deliveries_of, losses_of, number_of}
 use Rattle.snap_rows.specs.Network.{Happening, Inject, IsPlainRun, rests, start}
 use Rattle.snap_net.specs.Passing.{IsHeard, IsTold, Passes}
-use Rattle.snap_net.specs.Shown.{Held, Shows}
+use Rattle.snap_net.specs.Shown.{NetView, Represents}
 use Rattle.snap_rows.proofs.Happenings.{deliveries_of-append, losses_of-append}
 use Rattle.snap_runs.specs.Plain.{entering}
 use Rattle.snap_runs.specs.Reports.{packets_delivered}
 use Rattle.snap_runs.proofs.Blocks.{earlier-elsewhere, later-elsewhere}
 use Rattle.snap_runs.proofs.Happenings.{HappenElsewhere, deliveries_of-others, losses_of-others}
 use Rattle.snap_runs.proofs.Runs.{plain-then}
-use Rattle.snap_demo.specs.declared.counts.Counts.{Counts}
+use Rattle.snap_demo.specs.declared.counts.PacketCounts.{PacketCounts}
 use Rattle.snap_demo.specs.Runs.{HasRun, RunsOn, delivered_of, lost_of}
 
 -- ---- sums over ranges
@@ -91,7 +91,7 @@ module _ (n : ℕ) (hs gs : List Happening) (before : All (λ h. number_of h < n
 
 -- ---- the run
 -- before the first packet
-pub has_run-none : (v : Held) (c : Counts) → c.delivered ≡ 0 → c.lost ≡ 0 → Shows v (start v.tables zero_arrays) → HasRun [] v c
+pub has_run-none : (v : NetView) (c : PacketCounts) → c.delivered ≡ 0 → c.lost ≡ 0 → Represents v (start v.tables zero_arrays) → HasRun [] v c
 has_run-none v c d l shows = record {
   events = [];
   state = start v.tables zero_arrays;
@@ -105,7 +105,7 @@ has_run-none v c d l shows = record {
 }
 
 -- a packet passes, and what went out of it is counted
-module _ {V : Type 0} {saw : V → List Happening → V → Type 0} {a b : V} (port : ℕ) (k : List ℕ) (old new : Held) (sent : List (List ℕ)) (lost : ℕ) (before after : Counts) where
+module _ {V : Type 0} {saw : V → List Happening → V → Type 0} {a b : V} (port : ℕ) (k : List ℕ) (old new : NetView) (sent : List (List ℕ)) (lost : ℕ) (before after : PacketCounts) where
   pub runs-on : slice_index k 0 ≡ port → new.tables ≡ old.tables → Passes port k old new (IsHeard saw old.injected a b sent lost) → after.delivered ≡ before.delivered + length sent → after.lost ≡ before.lost + lost → RunsOn k old before new after
   runs-on first kept passes delivers loses ks h =
       let n = length ks in

@@ -5,12 +5,12 @@ use Rattle.std.proofs.lemmas.List.FromFn.{length-map-range_with_len}
 use Rattle.snap_core.specs.declared.program.Program.{Program}
 use Rattle.snap_dep.specs.Dependencies.{Tied}
 use Rattle.snap_names.specs.Declarations.{CoreProgram}
-use Rattle.snap_place.specs.Answer.{GivesSwitches}
+use Rattle.snap_placement.specs.Answer.{GivesSwitches}
 use Rattle.snap_demo.specs.Row.{stated_places, stated_topology, switch_name, switches}
 use Rattle.snap_demo.specs.Stated.{IsStated, arrays}
 
-pub stated_vars : (n : ℕ) (p : Program) → IsStated n p → p.vars ≡ arrays
-stated_vars n p stated = ap (λ (c : CoreProgram). c.vars) stated
+pub stated_vars : (n : ℕ) (p : Program) → IsStated n p → p.arrays ≡ arrays
+stated_vars n p stated = ap (λ (c : CoreProgram). c.arrays) stated
 
 pub places_fit : (n : ℕ) (p : Program) → 1 ≤ n → IsStated n p → (Tied p.body 0 1 → ⊥) → GivesSwitches p (stated_topology n) (stated_places n)
 places_fit n p some stated apart = record {

@@ -15,9 +15,9 @@ use Rattle.std.proofs.lemmas.Slice.Eq.{bytes_eq-Decides}
 use Rattle.snap_core.specs.declared.ports.PortAt.{PortAt}
 use Rattle.snap_core.specs.Names.{is_name_byte, is_switch_name}
 use Rattle.snap_core.specs.Ports.{port_in, link_cmp}
-use Rattle.snap_route.specs.Tables.{IsUnreachable}
-use Rattle.snap_route.specs.Walks.{IsWalk, Linked}
-use Rattle.snap_topo.specs.Form.{IsInForm, IsLink, IsPort}
+use Rattle.snap_topology.specs.Tables.{IsUnreachable}
+use Rattle.snap_topology.specs.Walks.{IsWalk, Linked}
+use Rattle.snap_topology.specs.Form.{IsWellFormed, IsLink, IsPort}
 use Rattle.snap_demo.specs.Row.{link_of, links, port_of, ports, stated_topology, switch_name, switches}
 use Rattle.snap_demo.proofs.Ranges.{apart, each, rising}
 use Rattle.snap_core.proofs.Orders.{nat_cmp-Less}
@@ -59,8 +59,8 @@ module _ (n : ℕ) (some : 1 ≤ n) (few : n ≤ 64) where
   count : length (switches n) ≡ n
   count = length-map-range_with_len switch_name 0 n
 
-  pub row_in_form : IsInForm (stated_topology n)
-  row_in_form = record {
+  pub row_well_formed : IsWellFormed (stated_topology n)
+  row_well_formed = record {
     some = omega (arith, count);
     switches = omega (arith, count);
     names = All-from_recursion (λ name. IsTrue (is_switch_name name)) (switches n) (each switch_name 64 (λ name. IsTrue (is_switch_name name)) is_named 0 n (omega arith));

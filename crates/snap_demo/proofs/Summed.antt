@@ -22,17 +22,17 @@ use Rattle.snap_rows.specs.declared.head.Sent.{Sent}
 use Rattle.snap_rows.specs.Entries.{port_numbers}
 use Rattle.snap_rows.specs.Handles.{sent}
 use Rattle.snap_rows.specs.Happenings.{deliveries_of, losses_of}
-use Rattle.snap_rows.specs.Network.{Happening, IsPlainRun, Net, whole}
-use Rattle.snap_net.specs.Shown.{Held, Shows}
-use Rattle.snap_gen.specs.Agreement.{CameOut, sent_of}
-use Rattle.snap_gen.specs.Faithful.{Faithful, IsPacketOf}
-use Rattle.snap_gen.proofs.Switching.{picks_all}
+use Rattle.snap_rows.specs.Network.{Happening, IsPlainRun, Net, global_store}
+use Rattle.snap_net.specs.Shown.{NetView, Represents}
+use Rattle.snap_faithful.specs.Agreement.{CameOut, sent_of}
+use Rattle.snap_faithful.specs.Faithful.{Faithful, IsPacketOf}
+use Rattle.snap_faithful.proofs.Switching.{picks_all}
 use Rattle.snap_runs.specs.Plain.{entering}
 use Rattle.snap_runs.specs.Reports.{packets_delivered}
-use Rattle.snap_whole.specs.OneSwitch.{ports_of}
-use Rattle.snap_whole.proofs.CalmReport.{calm_agrees}
-use Rattle.snap_whole.proofs.Made.{as_many, numbered_at}
-use Rattle.snap_demo.specs.declared.counts.Counts.{Counts}
+use Rattle.snap_refinement.specs.OneSwitch.{ports_of}
+use Rattle.snap_refinement.proofs.SequentialReport.{sequential_agrees}
+use Rattle.snap_refinement.proofs.Made.{as_many, numbered_at}
+use Rattle.snap_demo.specs.declared.counts.PacketCounts.{PacketCounts}
 use Rattle.snap_demo.specs.Packets.{packet_of, stated_packets}
 use Rattle.snap_demo.specs.Row.{stated_places, stated_topology}
 use Rattle.snap_demo.specs.Runs.{HasRun, delivered_of, lost_of}
@@ -72,14 +72,14 @@ module _ (t : Tables) (i : ℕ) (set : PacketSet) (hs : List Happening) (came : 
 
 -- ---- all
 module _ (n : ℕ) (some : 1 ≤ n) (few : n ≤ 64) (p : Program) (stated : IsStated n p) (t : Tables) (faithful : Faithful p (stated_topology n) (stated_places n) t) where
-  pub summed : (v : Held) (c : Counts) → v.tables ≡ t → HasRun (stated_packets n) v c
-      → (entries : List Entry) → ((s : Net) → Shows v s → IsListing (whole v.tables s) entries)
+  pub summed : (v : NetView) (c : PacketCounts) → v.tables ≡ t → HasRun (stated_packets n) v c
+      → (entries : List Entry) → ((s : Net) → Represents v s → IsListing (global_store v.tables s) entries)
       → (text : List ℕ) → text ≡ text_of n (100 * n) c.delivered c.lost (total_in 0 entries) (total_in 1 entries) → IsSummary n text
   summed v c same h entries lists text is =
       let ks = stated_packets n in
       let hs = h.happenings in
       let run : IsPlainRun t zero_arrays (entering ks) h.events h.state hs = subst (λ x. IsPlainRun x zero_arrays (entering ks) h.events h.state hs) same h.run in
-      let agrees = calm_agrees p (stated_topology n) (stated_places n) t faithful ks (packets_fit n p some few stated) h.events h.state hs run.packets run.run run.ended in
+      let agrees = sequential_agrees p (stated_topology n) (stated_places n) t faithful ks (packets_fit n p some few stated) h.events h.state hs run.packets run.run run.ended in
       let switched : one_big_switch p.body zero_arrays ks ≡ Some agrees.end = ap (one_big_switch p.body zero_arrays) (sym (picks_all ks)) ∙ agrees.switched in
       let sets = agrees.end.packets in
       let long : length ks ≡ length sets = as_many p.body zero_arrays ks agrees.end switched in
@@ -96,7 +96,7 @@ module _ (n : ℕ) (some : 1 ≤ n) (few : n ≤ 64) (p : Program) (stated : IsS
       ∙ sum-listed (λ i. sum (losses_of i hs)) (λ set. lost (port_numbers t) set) sets 0
       (λ j set is. ap (λ i. sum (losses_of i hs)) (let e : 0 + j ≡ j = omega arith in e) ∙ lost-came t j set hs (came j set is))
       ∙ ap (λ l. all_lost l sets) ports in
-      let listed = subst (λ x. IsListing (whole x h.state) entries) same (lists h.state h.shows) in
+      let listed = subst (λ x. IsListing (global_store x h.state) entries) same (lists h.state h.shows) in
       let packets : 100 * n ≡ length ks = sym (length-map-range_with_len (packet_of n) 0 (100 * n)) in
       record {
         program = p;

@@ -2,7 +2,7 @@
 use Rattle.std.specs.Prelude.{ℕ, ◌+◌, ◌-◌, ◌/◌, List, [], ◌∷◌, ◌++◌, map, codes, decimal}
 use Rattle.std.specs.List.{range_with_len}
 use Rattle.snap_core.specs.declared.ports.PortAt.{PortAt}
-use Rattle.snap_topo.specs.declared.topology.Topology.{Topology}
+use Rattle.snap_topology.specs.declared.topology.Topology.{Topology}
 
 -- switches n0, n1 and so on, a link between each and the next, and port i + 1 at switch i
 abbrev pub switch_name : ℕ → List ℕ

@@ -33,7 +33,7 @@ egress n zero = filter drop_test
 egress n (suc left) = choice (field_test 0 (n - left)) (set 1 (Num (left + 1))) (egress n left)
 
 abbrev pub stated_program : ℕ → CoreProgram
-stated_program n = record { fields = fields; vars = arrays; body = seq counting (egress n n) }
+stated_program n = record { fields = fields; arrays = arrays; body = seq counting (egress n n) }
 
 -- the program does what is stated, wherever its parts lie in memory
 abbrev pub IsStated : ℕ → Program → Type 0

@@ -7,7 +7,7 @@ use Rattle.snap_core.specs.Arrays.{zero_arrays}
 use Rattle.snap_core.specs.Listing.{IsListing}
 use Rattle.snap_core.specs.Packets.{PacketSet}
 use Rattle.snap_core.specs.Switch.{Switched, one_big_switch, delivered, lost}
-use Rattle.snap_whole.specs.OneSwitch.{ports_of}
+use Rattle.snap_refinement.specs.OneSwitch.{ports_of}
 use Rattle.snap_demo.specs.Packets.{stated_packets}
 use Rattle.snap_demo.specs.Row.{stated_topology}
 use Rattle.snap_demo.specs.Stated.{IsStated}

@@ -2,10 +2,10 @@
 
 ghost use Rattle.std.specs.Prelude.{◌≡◌, ◌≤◌, IfOk, length};
 ghost use Rattle.snap_core.specs.Laws.{PutsSmall};
-ghost use Rattle.snap_core.specs.Programs.{IsInForm};
+ghost use Rattle.snap_core.specs.Programs.{IsWellFormed};
 ghost use Rattle.snap_dep.specs.Dependencies.{Tied};
 ghost use Rattle.snap_build.specs.Whole.{IsWhole};
-ghost use Rattle.snap_gen.specs.Faithful.{Faithful};
+ghost use Rattle.snap_faithful.specs.Faithful.{Faithful};
 ghost use Rattle.snap_demo.specs.Row.{stated_places, stated_topology};
 ghost use Rattle.snap_demo.specs.Serial.{IsSerial};
 ghost use Rattle.snap_demo.specs.Stated.{IsStated};
@@ -26,7 +26,7 @@ pub(crate) fn compile(alloc: Global, program: &Program, switches: u16) -> Result
     requires some { 1 ≤ switches }
     requires few { switches ≤ 64 }
     requires stated { IsStated switches program.now }
-    requires form { IsInForm program.now }
+    requires form { IsWellFormed program.now }
     requires serial { IsSerial program.now.body }
     requires apart { Tied program.now.body 0 1 → ⊥ }
     ensures { IfOk result (Faithful program.now (stated_topology switches) (stated_places switches)) }
@@ -43,9 +43,9 @@ pub(crate) fn compile(alloc: Global, program: &Program, switches: u16) -> Result
 
 // The diagram of a program that never races.
 fn diagram(alloc: Global, program: &Program, groups: &Groups) -> Result<Built, NoMemory>
-    requires form { IsInForm program.now }
+    requires form { IsWellFormed program.now }
     requires serial { IsSerial program.now.body }
-    requires groups { length groups.now.ranks ≡ length program.now.vars }
+    requires groups { length groups.now.ranks ≡ length program.now.arrays }
     ensures whole { IfOk result (λ b. IsWhole program.now groups.now b.nodes b.root) }
     ensures small { IfOk result (λ b. PutsSmall program.now.body) }
 {

@@ -8,12 +8,12 @@ use snap_net::passing::Passed;
 
 /// How many packets were delivered, and how many were lost.
 #[derive(Clone, Copy)]
-pub(crate) struct Counts {
+pub(crate) struct PacketCounts {
     pub(crate) delivered: u64,
     pub(crate) lost: u64,
 }
 
-impl Counts {
+impl PacketCounts {
     /// Counts what went out of a packet. So many packets that the numbers wouldn't do don't fit memory.
     pub(crate) fn add(&mut self, passed: &Passed) -> Result<(), NoMemory>
         ensures delivered { OnOk result ((k : List ℕ) → self.new.delivered ≡ self.old.delivered + length (sent_in k passed.now)) }

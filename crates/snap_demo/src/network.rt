@@ -1,17 +1,17 @@
 //! The topology, its routes, and the placement.
 
 ghost use Rattle.std.specs.Prelude.{◌≡◌, ◌≤◌, IfOk};
-ghost use Rattle.snap_route.specs.Tables.{AreRoutes};
+ghost use Rattle.snap_topology.specs.Tables.{AreRoutes};
 ghost use Rattle.snap_demo.specs.Row.{links, ports, stated_places, stated_topology, switch_name, switches};
 
 use snap_core::NoMemory;
 use snap_core::lists::{Name, Names};
 use snap_core::ports::{Links, PortAt, Ports};
-use snap_place::placement::Placement;
-use snap_route::calls::routes;
-use snap_route::table::{RouteFault, Routes};
-use snap_topo::topology::Topology;
-use snap_trace::report::put_number;
+use snap_placement::placement::Placement;
+use snap_report::report::put_number;
+use snap_topology::calls::routes;
+use snap_topology::table::{RouteFault, Routes};
+use snap_topology::topology::Topology;
 use std::alloc::Global;
 
 /// So many switches in a row, with a port at each.

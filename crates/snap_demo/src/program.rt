@@ -4,7 +4,7 @@ ghost use Rattle.std.specs.Prelude.{◌≡◌, ◌≤◌, ◌+◌, ◌∷◌, []
 ghost use Rattle.snap_core.specs.declared.policy.Atom.TheVariants.{Comp, Num};
 ghost use Rattle.snap_core.specs.declared.policy.Op.TheVariants.{Add};
 ghost use Rattle.snap_core.specs.Fields.{plain_field};
-ghost use Rattle.snap_core.specs.Programs.{IsInForm};
+ghost use Rattle.snap_core.specs.Programs.{IsWellFormed};
 ghost use Rattle.snap_dep.specs.Dependencies.{Tied};
 ghost use Rattle.snap_demo.specs.Parts.{IsBody, IsCounting, IsEgress};
 ghost use Rattle.snap_demo.specs.Serial.{IsSerial};
@@ -29,13 +29,13 @@ const COUNT: u16 = 1;
 /// The program of so many ports.
 pub(crate) fn program(alloc: Global, ports: u16) -> Result<Program, NoMemory>
     ensures stated { IfOk result (IsStated ports) }
-    ensures form { IfOk result IsInForm }
+    ensures form { IfOk result IsWellFormed }
     ensures serial { IfOk result (λ p. IsSerial p.body) }
     ensures apart { IfOk result (λ p. Tied p.body 0 1 → ⊥) }
 {
     Ok(Program {
         fields: fields(alloc)?,
-        vars: arrays(alloc)?,
+        arrays: arrays(alloc)?,
         body: body(alloc, ports)?,
     })
 }

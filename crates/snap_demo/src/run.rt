@@ -5,12 +5,12 @@ ghost use Rattle.snap_core.specs.Arrays.{zero_arrays};
 ghost use Rattle.snap_rows.specs.Entries.{port_at};
 ghost use Rattle.snap_rows.specs.Form.{comps};
 ghost use Rattle.snap_rows.specs.Network.{start};
-ghost use Rattle.snap_net.specs.Shown.{Shows};
+ghost use Rattle.snap_net.specs.Shown.{Represents};
 ghost use Rattle.snap_demo.specs.Packets.{stated_packets};
 ghost use Rattle.snap_demo.specs.Row.{ports};
 ghost use Rattle.snap_demo.specs.Runs.{HasRun, RunsOn};
 
-use crate::counts::Counts;
+use crate::counts::PacketCounts;
 use crate::packets::{PACKETS, packet_of, port_of};
 use snap_core::NoMemory;
 use snap_core::packet::Packet;
@@ -19,17 +19,17 @@ use snap_net::watch::Unwatched;
 use std::alloc::Global;
 
 /// Runs all packets, and counts what happened to them.
-pub(crate) fn run(alloc: Global, net: &mut Net, switches: u16) -> Result<Counts, NoMemory>
+pub(crate) fn run(alloc: Global, net: &mut Net, switches: u16) -> Result<PacketCounts, NoMemory>
     requires some { 1 ≤ switches }
     requires few { switches ≤ 64 }
     requires comps { comps net.old.tables ≡ 3 }
     requires ports { net.old.tables.ports ≡ ports switches }
     requires injected { net.old.injected ≡ 0 }
-    requires start { Shows net.old (start net.old.tables zero_arrays) }
+    requires start { Represents net.old (start net.old.tables zero_arrays) }
     ensures run { IfOk result (HasRun (stated_packets switches) net.new) }
     ensures tables { net.new.tables ≡ net.old.tables }
 {
-    let mut counts = Counts {
+    let mut counts = PacketCounts {
         delivered: 0,
         lost: 0,
     };
@@ -43,7 +43,7 @@ pub(crate) fn run(alloc: Global, net: &mut Net, switches: u16) -> Result<Counts,
 // Lets a packet through the network, and counts what went out.
 fn run_packet(
     net: &mut Net,
-    counts: &mut Counts,
+    counts: &mut PacketCounts,
     port: u32,
     mut packet: Packet,
 ) -> Result<(), NoMemory>

@@ -1,7 +1,7 @@
 //! The summary of a demonstration.
 
 ghost use Rattle.std.specs.Prelude.{◌≤◌, IfOk};
-ghost use Rattle.snap_gen.specs.Faithful.{Faithful};
+ghost use Rattle.snap_faithful.specs.Faithful.{Faithful};
 ghost use Rattle.snap_demo.specs.Row.{stated_places, stated_topology};
 ghost use Rattle.snap_demo.specs.Stated.{IsStated};
 ghost use Rattle.snap_demo.specs.Summary.{IsSummary};

@@ -3,10 +3,10 @@
 ghost use Rattle.std.specs.Prelude.{◌≡◌, ◌++◌, ◌^◌, ◌<◌, IfOk, OnOk};
 ghost use Rattle.snap_demo.specs.Summary.{line, part_in, text_of, total_in};
 
-use crate::counts::Counts;
+use crate::counts::PacketCounts;
 use snap_core::NoMemory;
 use snap_core::place::Entry;
-use snap_trace::report::put_number;
+use snap_report::report::put_number;
 use std::alloc::Global;
 
 /// The sum of the numbers of an array. One that 64 bits don't hold is want of memory.
@@ -36,7 +36,7 @@ pub(crate) fn text_of(
     alloc: Global,
     switches: u16,
     packets: u64,
-    counts: &Counts,
+    counts: &PacketCounts,
     seen: u64,
     count: u64,
 ) -> Result<Vec<u8>, NoMemory>

@@ -21,15 +21,15 @@ pub record IsFree (rows : List ℕ) (set v : ℕ) : Type 0 where
   pub free : (s : ℕ) → IsTrue (has set s) → s ≢ v → ¬ (Relates rows s v)
 
 -- pairs in rising order of the first, and then of the second
-abbrev pub IsBefore : ℕ × ℕ → ℕ × ℕ → Type 0
-IsBefore a b = (a.0 < b.0) ⊎ ((a.0 ≡ b.0) × (a.1 < b.1))
+abbrev pub PrecedesPair : ℕ × ℕ → ℕ × ℕ → Type 0
+PrecedesPair a b = (a.0 < b.0) ⊎ ((a.0 ≡ b.0) × (a.1 < b.1))
 
 -- the pairs of a relation in rising order
 pub record Lists (R : ℕ → ℕ → Type 0) (pairs : List (ℕ × ℕ)) : Type 0 where
-  pub rising : AllPairs IsBefore pairs
+  pub rising : AllPairs PrecedesPair pairs
   pub each : (s t : ℕ) → Contains pairs (s, t) ↔ R s t
 
 -- those of them that are before a pair
 pub record ListsTo (R : ℕ → ℕ → Type 0) (end : ℕ × ℕ) (pairs : List (ℕ × ℕ)) : Type 0 where
-  pub rising : AllPairs IsBefore pairs
-  pub each : (s t : ℕ) → Contains pairs (s, t) ↔ (R s t × IsBefore (s, t) end)
+  pub rising : AllPairs PrecedesPair pairs
+  pub each : (s t : ℕ) → Contains pairs (s, t) ↔ (R s t × PrecedesPair (s, t) end)

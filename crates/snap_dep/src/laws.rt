@@ -17,7 +17,7 @@ pub fn has_one_rank()
 {}
 
 /// From arrays that agree on a set of variables closed under what they depend on come arrays that agree on it.
-pub fn keeps_agreement()
+pub fn evaluation_is_noninterfering()
     ensures { KeepsAgreement }
 {}
 

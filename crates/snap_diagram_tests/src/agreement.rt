@@ -14,8 +14,8 @@ use snap_core::packets::Packets;
 use snap_core::place::Entry;
 use snap_core::policy::{Pol, Update};
 use snap_core::store::Store;
-use snap_fdd::bounds::outs_fit;
-use snap_fdd::leaf::Leaf;
+use snap_diagrams::bounds::outs_fit;
+use snap_diagrams::leaf::Leaf;
 use std::alloc::Global;
 use std::test::Fail;
 

@@ -1,22 +1,22 @@
 //! What several of the tests build.
 
 ghost use Rattle.std.specs.Prelude.{IfOk};
-ghost use Rattle.snap_core.specs.Programs.{IsInForm};
-ghost use Rattle.snap_fdd.specs.Picks.{IsArgument};
+ghost use Rattle.snap_core.specs.Programs.{IsWellFormed};
+ghost use Rattle.snap_diagrams.specs.Picks.{IsWellFormedDiagram};
 
-use snap_arena::nodes::Nodes;
 use snap_build::policies::policy;
+use snap_context::context::{Assumed, Context};
+use snap_context::fits::fits;
 use snap_core::lists::Atoms;
 use snap_core::packet::Packet;
 use snap_core::policy::{Atom, Term, Test};
 use snap_core::program::Program;
 use snap_core::store::Store;
-use snap_ctx::context::{Assumed, Context};
-use snap_ctx::fits::fits;
 use snap_dep::calls::groups;
 use snap_dep::groups::Groups;
-use snap_fdd::leaf::Leaf;
-use snap_fdd::walking::walk;
+use snap_diagrams::leaf::Leaf;
+use snap_diagrams::nodes::Nodes;
+use snap_diagrams::walking::walk;
 use snap_lex::tokens;
 use snap_names::resolve;
 use snap_parse::parse;
@@ -25,7 +25,7 @@ use std::test::Fail;
 
 /// The program that a text spells.
 pub(crate) fn program(alloc: Global, text: &str) -> Result<Program, Fail>
-    ensures { IfOk result IsInForm }
+    ensures { IfOk result IsWellFormed }
 {
     let text = text.as_bytes();
     if text.len() > 262_144 {
@@ -47,8 +47,8 @@ pub(crate) struct Made {
 
 /// The diagram of a program.
 pub(crate) fn diagram(alloc: Global, program: &Program) -> Result<Made, Fail>
-    requires { IsInForm program.now }
-    ensures { IfOk result (λ d. IsArgument d.groups d.ctx d.nodes d.root) }
+    requires { IsWellFormed program.now }
+    ensures { IfOk result (λ d. IsWellFormedDiagram d.groups d.ctx d.nodes d.root) }
 {
     let groups = groups(alloc, program)?;
     let ctx = Context::empty(alloc, program.fields.count())?;
@@ -64,7 +64,7 @@ pub(crate) fn diagram(alloc: Global, program: &Program) -> Result<Made, Fail>
 
 /// The diagram of the program that a text spells.
 pub(crate) fn drawn(alloc: Global, text: &str) -> Result<Made, Fail>
-    ensures { IfOk result (λ d. IsArgument d.groups d.ctx d.nodes d.root) }
+    ensures { IfOk result (λ d. IsWellFormedDiagram d.groups d.ctx d.nodes d.root) }
 {
     let program = program(alloc, text)?;
     diagram(alloc, &program)
@@ -72,7 +72,7 @@ pub(crate) fn drawn(alloc: Global, text: &str) -> Result<Made, Fail>
 
 /// The leaf to which a diagram walks.
 pub(crate) fn leaf_at<'a>(d: &'a Made, store: &Store, packet: &Packet) -> Result<&'a Leaf, Fail>
-    requires { IsArgument d.now.groups d.now.ctx d.now.nodes d.now.root }
+    requires { IsWellFormedDiagram d.now.groups d.now.ctx d.now.nodes d.now.root }
 {
     if packet.comps().len() != d.ctx.comps() as usize {
         return Err("the packet has other components")?;

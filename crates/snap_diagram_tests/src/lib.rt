@@ -6,16 +6,16 @@ mod agreement;
 #[cfg(test)]
 mod given;
 #[cfg(test)]
-mod of_arena;
-#[cfg(test)]
 mod of_build;
 #[cfg(test)]
 mod of_chain;
 #[cfg(test)]
-mod of_ctx;
+mod of_context;
 #[cfg(test)]
-mod of_fdd;
+mod of_diagrams;
+#[cfg(test)]
+mod of_example;
 #[cfg(test)]
 mod of_join;
 #[cfg(test)]
-mod of_model;
+mod of_nodes;

@@ -1,7 +1,7 @@
 //! Diagrams of programs beside evaluation.
 
-ghost use Rattle.snap_core.specs.Programs.{IsInForm};
-ghost use Rattle.snap_fdd.specs.Picks.{IsArgument};
+ghost use Rattle.snap_core.specs.Programs.{IsWellFormed};
+ghost use Rattle.snap_diagrams.specs.Picks.{IsWellFormedDiagram};
 
 use crate::agreement::agrees;
 use crate::given::{Made, diagram, leaf_at, program};
@@ -12,7 +12,7 @@ use snap_core::policy::Pol;
 use snap_core::program::Program;
 use snap_core::store::Store;
 use snap_dep::calls::groups;
-use snap_fdd::leaf::Leaf;
+use snap_diagrams::leaf::Leaf;
 use std::alloc::Global;
 use std::process::Abort;
 use std::test::Fail;
@@ -63,7 +63,7 @@ fn agrees_on(
     store: &Store,
     packet: &Packet,
 ) -> Result<bool, Fail>
-    requires { IsArgument d.now.groups d.now.ctx d.now.nodes d.now.root }
+    requires { IsWellFormedDiagram d.now.groups d.now.ctx d.now.nodes d.now.root }
 {
     let leaf = leaf_at(d, store, packet)?;
     agrees(alloc, leaf, pol, store, packet)
@@ -71,14 +71,14 @@ fn agrees_on(
 
 // Whether they agree on this one of the 81.
 fn agrees_at(alloc: Global, d: &Made, pol: &Pol, number: u64) -> Result<bool, Fail>
-    requires { IsArgument d.now.groups d.now.ctx d.now.nodes d.now.root }
+    requires { IsWellFormedDiagram d.now.groups d.now.ctx d.now.nodes d.now.root }
 {
     let (store, packet) = input(alloc, number)?;
     agrees_on(alloc, d, pol, &store, &packet)
 }
 
 fn agrees_at_each(alloc: Global, d: &Made, pol: &Pol) -> Result<bool, Fail>
-    requires { IsArgument d.now.groups d.now.ctx d.now.nodes d.now.root }
+    requires { IsWellFormedDiagram d.now.groups d.now.ctx d.now.nodes d.now.root }
 {
     for number in 0..81u64 {
         if !agrees_at(alloc, d, pol, number)? {
@@ -90,7 +90,7 @@ fn agrees_at_each(alloc: Global, d: &Made, pol: &Pol) -> Result<bool, Fail>
 
 // Whether the diagram of a program and evaluation agree on all these stores and packets.
 fn agrees_everywhere(alloc: Global, program: &Program) -> Result<bool, Fail>
-    requires { IsInForm program.now }
+    requires { IsWellFormed program.now }
 {
     let d = diagram(alloc, program)?;
     agrees_at_each(alloc, &d, &program.body)
@@ -98,7 +98,7 @@ fn agrees_everywhere(alloc: Global, program: &Program) -> Result<bool, Fail>
 
 // Whether a program builds, or else evaluation is undefined on the store and packet that are given.
 fn is_judged(alloc: Global, program: &Program) -> Result<bool, Fail>
-    requires { IsInForm program.now }
+    requires { IsWellFormed program.now }
 {
     let groups = groups(alloc, program)?;
     match build(alloc, program, &groups) {
@@ -112,7 +112,7 @@ fn is_judged(alloc: Global, program: &Program) -> Result<bool, Fail>
 
 // Whether all of this is so of a program.
 fn is_right(alloc: Global, program: &Program) -> Result<bool, Fail>
-    requires { IsInForm program.now }
+    requires { IsWellFormed program.now }
 {
     Ok(agrees_everywhere(alloc, program)? && is_judged(alloc, program)?)
 }

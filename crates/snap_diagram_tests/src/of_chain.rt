@@ -1,4 +1,4 @@
-ghost use Rattle.snap_fdd.specs.Picks.{IsArgument};
+ghost use Rattle.snap_diagrams.specs.Picks.{IsWellFormedDiagram};
 
 use crate::agreement::{outs_fit_packet, updates_fit};
 use crate::given::{Made, drawn, leaf_at};
@@ -6,7 +6,7 @@ use snap_core::lists::Out;
 use snap_core::outs::after_all;
 use snap_core::packet::Packet;
 use snap_core::store::Store;
-use snap_fdd::leaf::{Go, Leaf};
+use snap_diagrams::leaf::{Go, Leaf};
 use std::alloc::Global;
 use std::test::Fail;
 
@@ -82,7 +82,7 @@ fn led(
     packet: &Packet,
     comps: [u64; 4],
 ) -> Result<Option<Gives>, Fail>
-    requires { IsArgument d.now.groups d.now.ctx d.now.nodes d.now.root }
+    requires { IsWellFormedDiagram d.now.groups d.now.ctx d.now.nodes d.now.root }
 {
     match leaf_at(d, store, packet)? {
         Leaf::Race => Ok(None),
@@ -92,7 +92,7 @@ fn led(
 
 // What a diagram makes of the packet before there are numbers.
 fn gives(alloc: Global, d: &Made, comps: [u64; 4]) -> Result<Option<Gives>, Fail>
-    requires { IsArgument d.now.groups d.now.ctx d.now.nodes d.now.root }
+    requires { IsWellFormedDiagram d.now.groups d.now.ctx d.now.nodes d.now.root }
 {
     let packet = Packet::new(comps.as_slice().to_vec(alloc)?);
     let mut store = Store::new(alloc);

@@ -1,12 +1,12 @@
-ghost use Rattle.snap_fdd.specs.Picks.{IsArgument};
+ghost use Rattle.snap_diagrams.specs.Picks.{IsWellFormedDiagram};
 
 use crate::given::{Made, drawn, leaf_at};
-use snap_arena::node::Node;
-use snap_arena::nodes::Nodes;
 use snap_core::packet::Packet;
 use snap_core::store::Store;
-use snap_fdd::leaf::Leaf;
-use snap_fdd::pruning::prune;
+use snap_diagrams::leaf::Leaf;
+use snap_diagrams::node::Node;
+use snap_diagrams::nodes::Nodes;
+use snap_diagrams::pruning::prune;
 use std::alloc::{AllocError, Global};
 use std::test::Fail;
 
@@ -42,7 +42,7 @@ enum Does {
 
 // What a diagram does with a store and a packet.
 fn done(d: &Made, store: &Store, packet: &Packet) -> Result<Does, Fail>
-    requires { IsArgument d.now.groups d.now.ctx d.now.nodes d.now.root }
+    requires { IsWellFormedDiagram d.now.groups d.now.ctx d.now.nodes d.now.root }
 {
     let leaf = leaf_at(d, store, packet)?;
     if matches!(leaf, Leaf::Race) {
@@ -56,7 +56,7 @@ fn done(d: &Made, store: &Store, packet: &Packet) -> Result<Does, Fail>
 
 // What it does with this one of the 18.
 fn done_at(alloc: Global, d: &Made, number: u64) -> Result<Does, Fail>
-    requires { IsArgument d.now.groups d.now.ctx d.now.nodes d.now.root }
+    requires { IsWellFormedDiagram d.now.groups d.now.ctx d.now.nodes d.now.root }
 {
     let (store, packet) = input(alloc, number)?;
     done(d, &store, &packet)
@@ -64,7 +64,7 @@ fn done_at(alloc: Global, d: &Made, number: u64) -> Result<Does, Fail>
 
 // At how many of them two parts race, and at how many a diagram passes the packet.
 fn counts(alloc: Global, d: &Made) -> Result<(u64, u64), Fail>
-    requires { IsArgument d.now.groups d.now.ctx d.now.nodes d.now.root }
+    requires { IsWellFormedDiagram d.now.groups d.now.ctx d.now.nodes d.now.root }
 {
     let (mut races, mut passes) = (0u64, 0u64);
     for number in 0..18u64 {
@@ -172,7 +172,7 @@ fn count_below(nodes: &Nodes<Leaf>, root: u64) -> Result<usize, Fail> {
 
 // The nodes of a diagram that pruning leaves as it is.
 fn count_kept(d: &mut Made) -> Result<usize, Fail>
-    requires { IsArgument d.old.groups d.old.ctx d.old.nodes d.old.root }
+    requires { IsWellFormedDiagram d.old.groups d.old.ctx d.old.nodes d.old.root }
 {
     if prune(&mut d.nodes, &d.groups, &d.ctx, d.root)? != d.root {
         return Err("pruning changes it")?;

@@ -11,15 +11,15 @@ use Rattle.snap_core.specs.declared.policy.Update.{Update}
 use Rattle.snap_core.specs.Arrays.{Arrays, same_place, place_at, number_after, update, updates, has}
 use Rattle.snap_core.proofs.Unwritten.{neither}
 use Rattle.snap_core.proofs.Framed.{has-pow_same}
-use Rattle.snap_ctx.specs.Classes.{wrap}
+use Rattle.snap_context.specs.Classes.{wrap}
 use Rattle.snap_core.proofs.Places.{same_place-exact}
-use Rattle.snap_ctx.proofs.Wrap.{wrap_assoc, wrap_zero}
+use Rattle.snap_context.proofs.Wrap.{wrap_assoc, wrap_zero}
 use Rattle.snap_core.specs.declared.policy.Atom.{Atom}
-use Rattle.snap_equal.specs.declared.tally.Sign.{Sign}
-use Rattle.snap_equal.specs.declared.tally.Sign.TheVariants.{Plus, Minus}
+use Rattle.snap_equal.specs.declared.tally.Direction.{Direction}
+use Rattle.snap_equal.specs.declared.tally.Direction.TheVariants.{Plus, Minus}
 use Rattle.snap_equal.specs.Tally.{AddOutside, share, share_of, signed, signed_total, total}
-use Rattle.snap_chain.specs.Additions.{IsAddition, added_up, added}
-use Rattle.snap_chain.proofs.Splitting.{hit, missed}
+use Rattle.snap_compose.specs.Additions.{IsAddition, added_up, added}
+use Rattle.snap_compose.proofs.Splitting.{hit, missed}
 
 -- ---- totals
 pub total_small : (us : List Update) (k : List ℕ) (q : Place) → total us k q < 2 ^ 64
@@ -86,21 +86,21 @@ module _ (k : List ℕ) (q : Place) where
   signed_total-minus (u ∷ us) = undone (same_place (place_at u.var u.index k) q) (added u.op) (signed_total Minus us k q) (total us k q) (signed_total-minus us)
 
 -- ---- variables at which something is put
-pub kept_outside : (vars n v : ℕ) → has (bit_or vars (2 ^ n)) v ≡ false → has vars v ≡ false
-kept_outside vars n v e = (neither vars (2 ^ n) v e).0
+pub kept_outside : (arrays n v : ℕ) → has (bit_or arrays (2 ^ n)) v ≡ false → has arrays v ≡ false
+kept_outside arrays n v e = (neither arrays (2 ^ n) v e).0
 
 -- an update of a variable that the set has needs to be no addition
-pub put_in : (vars : ℕ) (u : Update) → has (bit_or vars (2 ^ u.var)) u.var ≡ false → IsAddition u.op
-put_in vars u e = absurd (true≢false (sym (has-pow_same u.var) ∙ (neither vars (2 ^ u.var) u.var e).1))
+pub put_in : (arrays : ℕ) (u : Update) → has (bit_or arrays (2 ^ u.var)) u.var ≡ false → IsAddition u.op
+put_in arrays u e = absurd (true≢false (sym (has-pow_same u.var) ∙ (neither arrays (2 ^ u.var) u.var e).1))
 
-pub outside_more : (vars wider : ℕ) (us : List Update) (i : ℕ) (u : Update) → i < length us → u ≡ get_or us i u → ((v : ℕ) → has wider v ≡ false → has vars v ≡ false)
-    → (has wider u.var ≡ false → IsAddition u.op) → AddOutside vars (take i us) → AddOutside wider (take (i + 1) us)
-outside_more vars wider us i u l is fewer here h =
+pub outside_more : (arrays wider : ℕ) (us : List Update) (i : ℕ) (u : Update) → i < length us → u ≡ get_or us i u → ((v : ℕ) → has wider v ≡ false → has arrays v ≡ false)
+    → (has wider u.var ≡ false → IsAddition u.op) → AddOutside arrays (take i us) → AddOutside wider (take (i + 1) us)
+outside_more arrays wider us i u l is fewer here h =
     let P : Update → Type 0 = λ u. has wider u.var ≡ false → IsAddition u.op in
     All-more P us i u l (λ j d lj n. h j d lj (fewer (get_or (take i us) j d).var n)) (subst P is here)
 
-pub outside_wider : (vars wider : ℕ) (us : List Update) → ((v : ℕ) → has wider v ≡ false → has vars v ≡ false) → AddOutside vars us → AddOutside wider us
-outside_wider vars wider us fewer h = λ j d l n. h j d l (fewer (get_or us j d).var n)
+pub outside_wider : (arrays wider : ℕ) (us : List Update) → ((v : ℕ) → has wider v ≡ false → has arrays v ≡ false) → AddOutside arrays us → AddOutside wider us
+outside_wider arrays wider us fewer h = λ j d l n. h j d l (fewer (get_or us j d).var n)
 
 none_either : (b : Bool) → ◌≡◌ {A = ℕ} (cond b 0 0) 0
 none_either true = refl
@@ -128,21 +128,21 @@ share_other u n k q other = by (same_place (place_at u.var u.index k) q) refl
     by true e = absurd (other (ap (λ (p : Place). p.var) (same_place-exact (place_at u.var u.index k) q e)))
     by false e = refl
 
-pub signed-none : (sign : Sign) → signed sign 0 ≡ 0
+pub signed-none : (sign : Direction) → signed sign 0 ≡ 0
 signed-none Plus = refl
 signed-none Minus = refl
 
-signed_total_small : (sign : Sign) (us : List Update) (k : List ℕ) (q : Place) → signed_total sign us k q < 2 ^ 64
+signed_total_small : (sign : Direction) (us : List Update) (k : List ℕ) (q : Place) → signed_total sign us k q < 2 ^ 64
 signed_total_small sign [] k q = omega arith
 signed_total_small sign (u ∷ us) k q = omega arith
 
-signed_total-push : (sign : Sign) (us : List Update) (u : Update) (k : List ℕ) (q : Place) → signed_total sign (us ++ u ∷ []) k q ≡ wrap (signed_total sign us k q) (share_of u (signed sign (added u.op)) k q)
+signed_total-push : (sign : Direction) (us : List Update) (u : Update) (k : List ℕ) (q : Place) → signed_total sign (us ++ u ∷ []) k q ≡ wrap (signed_total sign us k q) (share_of u (signed sign (added u.op)) k q)
 signed_total-push sign [] u k q = wrap_turn (share_of u (signed sign (added u.op)) k q) 0
 signed_total-push sign (x ∷ us) u k q =
     ap (wrap (share_of x (signed sign (added x.op)) k q)) (signed_total-push sign us u k q)
     ∙ sym (wrap_assoc (share_of x (signed sign (added x.op)) k q) (signed_total sign us k q) (share_of u (signed sign (added u.op)) k q))
 
-module _ (sign : Sign) (us : List Update) (i : ℕ) (u : Update) (k : List ℕ) (q : Place) (l : i < length us) (is : u ≡ get_or us i u) where
+module _ (sign : Direction) (us : List Update) (i : ℕ) (u : Update) (k : List ℕ) (q : Place) (l : i < length us) (is : u ≡ get_or us i u) where
   pub signed_total-more : signed_total sign (take (i + 1) us) k q ≡ wrap (signed_total sign (take i us) k q) (share_of u (signed sign (added u.op)) k q)
   signed_total-more =
       ap (λ xs. signed_total sign xs k q) (take_more us i u l ∙ ap (λ (x : Update). take i us ++ x ∷ []) (sym is))

@@ -3,15 +3,15 @@ use Rattle.std.proofs.Common.{◌≡◌, ℕ, Bool, List, [], ◌∷◌, length,
 use Rattle.snap_core.specs.declared.policy.Test.{Test}
 use Rattle.snap_core.specs.Arrays.{Arrays}
 use Rattle.snap_core.specs.Tests.{passes}
-use Rattle.snap_ctx.specs.declared.context.Assumed.TheVariants.{More}
-use Rattle.snap_ctx.specs.declared.fact.Fact.{Fact}
-use Rattle.snap_ctx.specs.Answers.{IsAssumed}
-use Rattle.snap_ctx.specs.Meets.{Meets}
-use Rattle.snap_ctx.specs.View.{View}
-use Rattle.snap_ctx.proofs.Answers.{Meets-with_fact}
-use Rattle.snap_arena.specs.declared.node.Node.{Node}
-use Rattle.snap_fdd.specs.declared.leaf.Leaf.{Leaf}
-use Rattle.snap_fdd.specs.Diagrams.{diagram}
+use Rattle.snap_context.specs.declared.context.Assumed.TheVariants.{More}
+use Rattle.snap_context.specs.declared.fact.Fact.{Fact}
+use Rattle.snap_context.specs.Answers.{IsAssumed}
+use Rattle.snap_context.specs.Meets.{Meets}
+use Rattle.snap_context.specs.View.{View}
+use Rattle.snap_context.proofs.Answers.{Meets-with_fact}
+use Rattle.snap_diagrams.specs.declared.node.Node.{Node}
+use Rattle.snap_diagrams.specs.declared.leaf.Leaf.{Leaf}
+use Rattle.snap_diagrams.specs.Diagrams.{diagram}
 use Rattle.snap_equal.specs.Leaves.{DiagramsDoSame, PairMet}
 use Rattle.snap_equal.specs.declared.comparing.Compared.{Compared}
 use Rattle.snap_equal.specs.declared.comparing.Compared.TheVariants.{Same, Differ}
@@ -47,14 +47,14 @@ module _ (v : View) (ns os : List (Node Leaf)) (first second : ℕ) (key : List 
       subst (λ a. DiagramsDoSame (diagram ns a) (diagram os y) m k) hx (subst (λ b. DiagramsDoSame (diagram ns first) (diagram os b) m k) hy here)
 
 -- ---- the whole comparison
-pub compared : (comps vars : ℕ) (ns os : List (Node Leaf)) (d e : ℕ) (v : View) (c : Compared) → v.facts ≡ [] → length v.classes ≡ comps
-    → IsAnswer v vars (DiagramsDoSame (diagram ns d) (diagram os e)) c → IsCompared comps vars ns d os e c
-compared comps vars ns os d e v Same none size h = λ m k s p. h m k (record {
+pub compared : (comps arrays : ℕ) (ns os : List (Node Leaf)) (d e : ℕ) (v : View) (c : Compared) → v.facts ≡ [] → length v.classes ≡ comps
+    → IsAnswer v arrays (DiagramsDoSame (diagram ns d) (diagram os e)) c → IsCompared comps arrays ns d os e c
+compared comps arrays ns os d e v Same none size h = λ m k s p. h m k (record {
   store = s;
   packet = record { long = p.long ∙ sym size; numbers = p.numbers };
   facts = subst (λ (fs : List Fact). Meets fs m k) (sym none) (λ i f l. absurd (omega (arith, l)));
 })
-compared comps vars ns os d e v (Differ s k) none size h = record {
+compared comps arrays ns os d e v (Differ s k) none size h = record {
   of = record { store = h.model.store; only = h.only; packet = record { long = h.model.packet.long ∙ size; numbers = h.model.packet.numbers } };
   differ = h.fails;
 }

@@ -8,7 +8,7 @@ use Rattle.snap_core.specs.declared.policy.Update.{Update}
 use Rattle.snap_core.specs.Arrays.{Arrays, same_place, place_at, update, updates}
 use Rattle.snap_equal.specs.Held.{AgreeAlong}
 use Rattle.snap_equal.specs.Tally.{is_chosen}
-use Rattle.snap_chain.proofs.Splitting.{missed}
+use Rattle.snap_compose.proofs.Splitting.{missed}
 use Rattle.snap_equal.proofs.Holding.{not_same}
 
 module _ (k : List ℕ) (q : Place) where

@@ -7,10 +7,10 @@ use Rattle.snap_core.specs.declared.place.Place.{Place}
 use Rattle.snap_core.specs.declared.policy.Update.{Update}
 use Rattle.snap_core.specs.Arrays.{Arrays, place_at, updates, has}
 use Rattle.snap_core.specs.Inputs.{IsStore}
-use Rattle.snap_ctx.specs.Classes.{wrap}
-use Rattle.snap_ctx.specs.View.{View}
-use Rattle.snap_ctx.proofs.Wrap.{wrap_zero, wrap_cancel, wrap_cancel_right}
-use Rattle.snap_chain.specs.Additions.{IsAddition}
+use Rattle.snap_context.specs.Classes.{wrap}
+use Rattle.snap_context.specs.View.{View}
+use Rattle.snap_context.proofs.Wrap.{wrap_zero, wrap_cancel, wrap_cancel_right}
+use Rattle.snap_compose.specs.Additions.{IsAddition}
 use Rattle.snap_equal.specs.Held.{AgreeAlong}
 use Rattle.snap_equal.specs.Tally.{IsSum, AddOutside, IsDifference, total}
 use Rattle.snap_equal.specs.Told.{IsModel, On}
@@ -21,10 +21,10 @@ use Rattle.snap_core.proofs.Updates.{updates-append}
 adds_at : (mixed : ℕ) (us : List Update) (q : Place) → AddOutside mixed us → has mixed q.var ≡ false → All (λ u. u.var ≡ q.var → IsAddition u.op) us
 adds_at mixed us q adds out i d l e = adds i d l (ap (has mixed) e ∙ out)
 
-module _ (v : View) (mixed vars n : ℕ) (left right us vs sums : List Update) (is_left : us ≡ drop n left) (is_right : vs ≡ drop n right)
+module _ (v : View) (mixed arrays n : ℕ) (left right us vs sums : List Update) (is_left : us ≡ drop n left) (is_right : vs ≡ drop n right)
     (same : On v (λ m k. updates m (take n left) k ≡ updates m (take n right) k)) (small : On v (λ m k. IsStore (updates m (take n left) k)))
     (add_left : AddOutside mixed us) (add_right : AddOutside mixed vs)
-    (are : All (IsSum mixed (length v.classes) vars) sums) (difference : IsDifference v mixed us vs sums)
+    (are : All (IsSum mixed (length v.classes) arrays) sums) (difference : IsDifference v mixed us vs sums)
     (m : Arrays) (k : List ℕ) (i : IsModel v m k) where
   -- the store after the common updates
   abbrev middle : Arrays

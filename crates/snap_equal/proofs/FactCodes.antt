@@ -3,11 +3,11 @@ use Rattle.std.proofs.Common.{◌≡◌, ℕ, Bool, true, false, cond, List, [],
 use Rattle.snap_core.specs.declared.policy.Test.{Test}
 use Rattle.snap_core.specs.declared.policy.Test.TheVariants.{Value, Equal, State}
 use Rattle.snap_core.specs.Terms.{term_code}
-use Rattle.snap_arena.specs.Codes.{test_code}
-use Rattle.snap_arena.proofs.Injective.{same_index}
-use Rattle.snap_ctx.specs.declared.fact.Fact.{Fact}
+use Rattle.snap_diagrams.specs.Codes.{test_code}
+use Rattle.snap_diagrams.proofs.Injective.{same_index}
+use Rattle.snap_context.specs.declared.fact.Fact.{Fact}
 use Rattle.snap_equal.specs.Weaker.{fact_code, facts_code}
-use Rattle.snap_ctx.proofs.Keys.{same_term}
+use Rattle.snap_context.proofs.Keys.{same_term}
 
 test_then : (a b : Test) (r s : List ℕ) → test_code a ++ r ≡ test_code b ++ s → (a ≡ b) × (r ≡ s)
 test_then (Value c n) (Value d o) r s e = (grind arith, grind arith)

@@ -9,7 +9,7 @@ use Rattle.snap_core.specs.declared.policy.Test.{Test}
 use Rattle.snap_core.specs.declared.policy.Test.TheVariants.{Value, Equal, State}
 use Rattle.snap_core.specs.Fits.{AtomFits}
 use Rattle.snap_core.specs.Tests.{TermFits, TestFits}
-use Rattle.snap_ctx.specs.Classes.{IsAtom, IsTerm, IsTest}
+use Rattle.snap_context.specs.Classes.{IsAtom, IsTerm, IsTest}
 
 atom_fits : (comps : ℕ) (a : Atom) → IsAtom comps a → AtomFits comps a
 atom_fits comps (Number n) h = tt

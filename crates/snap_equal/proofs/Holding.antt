@@ -13,21 +13,21 @@ use Rattle.snap_core.specs.declared.policy.Update.{Update}
 use Rattle.snap_core.specs.Arrays.{Arrays, same_place, place_at, number_after, update, updates}
 use Rattle.snap_core.specs.Fits.{OpFits}
 use Rattle.snap_core.specs.Tests.{passes, term_value}
-use Rattle.snap_ctx.specs.Classes.{wrap, shift}
+use Rattle.snap_context.specs.Classes.{wrap, shift}
 use Rattle.snap_core.specs.Ranges.{TermInRange}
-use Rattle.snap_ctx.specs.View.{View}
-use Rattle.snap_ctx.proofs.Algebra.{term_value-shift}
+use Rattle.snap_context.specs.View.{View}
+use Rattle.snap_context.proofs.Algebra.{term_value-shift}
 use Rattle.snap_core.proofs.Places.{same_place-exact}
 use Rattle.snap_core.proofs.Updates.{updates-append}
-use Rattle.snap_ctx.proofs.Wrap.{wrap_assoc}
-use Rattle.snap_chain.specs.Early.{term_of}
-use Rattle.snap_chain.proofs.Splitting.{hit, missed}
-use Rattle.snap_chain.proofs.Values.{shift-fits, term_of-fits, term_of-value}
-use Rattle.snap_equal.specs.declared.held.Held.{Held}
-use Rattle.snap_equal.specs.declared.held.Held.TheVariants.{Is, Old}
+use Rattle.snap_context.proofs.Wrap.{wrap_assoc}
+use Rattle.snap_compose.specs.PulledBack.{term_of}
+use Rattle.snap_compose.proofs.Splitting.{hit, missed}
+use Rattle.snap_compose.proofs.Values.{shift-fits, term_of-fits, term_of-value}
+use Rattle.snap_equal.specs.declared.held.PlaceValue.{PlaceValue}
+use Rattle.snap_equal.specs.declared.held.PlaceValue.TheVariants.{Is, Old}
 use Rattle.snap_equal.specs.declared.stop.Stop.{Stop}
 use Rattle.snap_equal.specs.Held.{held_value, HeldFits, more, changed, IsHeld}
-use Rattle.snap_equal.specs.Told.{IsModel, On, Tells, IsStop}
+use Rattle.snap_equal.specs.Told.{IsModel, On, Decides, IsStop}
 use Rattle.snap_equal.proofs.Telling.{result_as}
 use Rattle.snap_equal.proofs.Wrapping.{moved, moved_back}
 
@@ -39,9 +39,9 @@ term_small (Plus c p) k h = omega arith
 shifted_back : (t : Term) (n : ℕ) (k : List ℕ) → n < 2 ^ 64 → term_value (shift t (wrap 0 (2 ^ 64 - n))) k ≡ wrap (term_value t k) (2 ^ 64 - n)
 shifted_back t n k h = term_value-shift k t (wrap 0 (2 ^ 64 - n)) ∙ omega arith
 
-pub held_as : (v : View) (vars : ℕ) (r : Result Bool Stop) (s : ℕ) (ix : List Atom) (t : Term) (n : ℕ) → TermInRange t → n < 2 ^ 64
-    → MatchResult r (Tells v (λ m k. passes (State s ix (shift t (wrap 0 (2 ^ 64 - n)))) m k ≡ true)) (IsStop v vars) → MatchResult r (Tells v (λ m k. wrap (m (place_at s ix k)) n ≡ term_value t k)) (IsStop v vars)
-held_as v vars r s ix t n rt rn h = result_as v vars (λ m k. passes (State s ix (shift t (wrap 0 (2 ^ 64 - n)))) m k ≡ true) (λ m k. wrap (m (place_at s ix k)) n ≡ term_value t k)
+pub held_as : (v : View) (arrays : ℕ) (r : Result Bool Stop) (s : ℕ) (ix : List Atom) (t : Term) (n : ℕ) → TermInRange t → n < 2 ^ 64
+    → MatchResult r (Decides v (λ m k. passes (State s ix (shift t (wrap 0 (2 ^ 64 - n)))) m k ≡ true)) (IsStop v arrays) → MatchResult r (Decides v (λ m k. wrap (m (place_at s ix k)) n ≡ term_value t k)) (IsStop v arrays)
+held_as v arrays r s ix t n rt rn h = result_as v arrays (λ m k. passes (State s ix (shift t (wrap 0 (2 ^ 64 - n)))) m k ≡ true) (λ m k. wrap (m (place_at s ix k)) n ≡ term_value t k)
     (λ m k i e. sym (moved (m (place_at s ix k)) (term_value t k) n (term_small t k rt) rn (subst (λ x. (m (place_at s ix k) == x) ≡ true) (shifted_back t n k rn) e)))
     (λ m k i e. subst (λ x. (m (place_at s ix k) == x) ≡ true) (sym (shifted_back t n k rn)) (moved_back (m (place_at s ix k)) (term_value t k) n (i.store (place_at s ix k)) rn (sym e))) r h
 
@@ -54,23 +54,23 @@ pub not_same : (p q : Place) → (p ≡ q → ⊥) → (b : Bool) → same_place
 not_same p q h true e = absurd (h (same_place-exact p q e))
 not_same p q h false e = e
 
-more-value : (n : ℕ) (h : Held) (x : ℕ) (k : List ℕ) → held_value (more n h) x k ≡ wrap (held_value h x k) n
+more-value : (n : ℕ) (h : PlaceValue) (x : ℕ) (k : List ℕ) → held_value (more n h) x k ≡ wrap (held_value h x k) n
 more-value n (Is t) x k = term_value-shift k t n
 more-value n (Old y) x k = sym (wrap_assoc x y n)
 
-changed-value : (comps : ℕ) (h : Held) (op : Op) (x : ℕ) (k : List ℕ) → OpFits comps op → (v : View) (m : Arrays) → length v.classes ≡ comps → IsModel v m k → held_value (changed h op) x k ≡ number_after op (held_value h x k) k
+changed-value : (comps : ℕ) (h : PlaceValue) (op : Op) (x : ℕ) (k : List ℕ) → OpFits comps op → (v : View) (m : Arrays) → length v.classes ≡ comps → IsModel v m k → held_value (changed h op) x k ≡ number_after op (held_value h x k) k
 changed-value comps h (Put a) x k f v m e i = term_of-value comps a k (record { long = i.packet.long ∙ e; numbers = i.packet.numbers }) f
 changed-value comps h (Add n) x k f v m e i = more-value n h x k
 
-more-fits : (comps : ℕ) (n : ℕ) (h : Held) → HeldFits comps h → HeldFits comps (more n h)
+more-fits : (comps : ℕ) (n : ℕ) (h : PlaceValue) → HeldFits comps h → HeldFits comps (more n h)
 more-fits comps n (Is t) f = shift-fits comps t n f
 more-fits comps n (Old x) f = tt
 
-changed-fits : (comps : ℕ) (h : Held) (op : Op) → OpFits comps op → HeldFits comps h → HeldFits comps (changed h op)
+changed-fits : (comps : ℕ) (h : PlaceValue) (op : Op) → OpFits comps op → HeldFits comps h → HeldFits comps (changed h op)
 changed-fits comps h (Put a) o f = term_of-fits comps a o
 changed-fits comps h (Add n) o f = more-fits comps n h f
 
-module _ (v : View) (us : List Update) (u : Update) (s : ℕ) (ix : List Atom) (h : Held) (is : IsHeld v us s ix h) where
+module _ (v : View) (us : List Update) (u : Update) (s : ℕ) (ix : List Atom) (h : PlaceValue) (is : IsHeld v us s ix h) where
   pub held_hit : OpFits (length v.classes) u.op → On v (λ m k. place_at u.var u.index k ≡ place_at s ix k) → IsHeld v (us ++ u ∷ []) s ix (changed h u.op)
   held_hit o at = record {
     value = λ m k i.
@@ -102,7 +102,7 @@ module _ (v : View) (us : List Update) (u : Update) (s : ℕ) (ix : List Atom) w
     fits = term_of-fits (length v.classes) a o;
   }
 
-  module _ (h : Held) (is : IsHeld v us s ix h) (o : OpFits (length v.classes) u.op) (e : changed h u.op ≡ h) where
+  module _ (h : PlaceValue) (is : IsHeld v us s ix h) (o : OpFits (length v.classes) u.op) (e : changed h u.op ≡ h) where
     same_value : (m : Arrays) (k : List ℕ) → IsModel v m k → (b : Bool) → same_place (place_at u.var u.index k) (place_at s ix k) ≡ b → update (updates m us k) u k (place_at s ix k) ≡ held_value h (m (place_at s ix k)) k
     same_value m k i true at =
         hit u (updates m us k) k (place_at s ix k) (same_place-exact (place_at u.var u.index k) (place_at s ix k) at)

@@ -7,9 +7,9 @@ use Rattle.snap_core.specs.declared.policy.Atom.{Atom}
 use Rattle.snap_core.specs.declared.policy.Update.{Update}
 use Rattle.snap_core.specs.declared.policy.Atom.TheVariants.{Num as Number}
 use Rattle.snap_core.specs.Arrays.{Arrays, number_after, place_at, put, update, value_of}
-use Rattle.snap_ctx.specs.View.{View}
+use Rattle.snap_context.specs.View.{View}
 use Rattle.snap_equal.specs.declared.stop.Stop.{Stop}
-use Rattle.snap_equal.specs.Told.{Tells, IsStop}
+use Rattle.snap_equal.specs.Told.{Decides, IsStop}
 use Rattle.snap_equal.proofs.Telling.{result_as}
 
 pub same_numbers : (k : List ℕ) (xs ys : List Atom) → length xs ≡ length ys → ((j : ℕ) → j < length xs → value_of (get_or xs j (Number 0)) k ≡ value_of (get_or ys j (Number 0)) k)
@@ -30,7 +30,7 @@ number_at k xs ys j lx ly e =
 
 -- places of one variable
 pub places : (v : View) (r : Result Bool Stop) (s t : ℕ) (xs ys : List Atom) → s ≡ t
-    → MatchResult r (Tells v (λ m k. map (λ a. value_of a k) xs ≡ map (λ a. value_of a k) ys)) (IsStop v 0) → MatchResult r (Tells v (λ m k. place_at s xs k ≡ place_at t ys k)) (IsStop v 0)
+    → MatchResult r (Decides v (λ m k. map (λ a. value_of a k) xs ≡ map (λ a. value_of a k) ys)) (IsStop v 0) → MatchResult r (Decides v (λ m k. place_at s xs k ≡ place_at t ys k)) (IsStop v 0)
 places v r s t xs ys e h = result_as v 0 (λ m k. map (λ a. value_of a k) xs ≡ map (λ a. value_of a k) ys) (λ m k. place_at s xs k ≡ place_at t ys k)
     (λ m k i is. λ j. record { var = e j; index = is j })
     (λ m k i is. ap (λ (p : Place). p.index) is) r h

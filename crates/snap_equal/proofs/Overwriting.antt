@@ -7,7 +7,7 @@ use Rattle.snap_core.specs.declared.policy.Update.{Update}
 use Rattle.snap_core.specs.Arrays.{Arrays, same_place, place_at, number_after, update, updates}
 use Rattle.snap_core.proofs.Places.{same_place-exact}
 use Rattle.snap_core.proofs.Updates.{updates-append}
-use Rattle.snap_chain.proofs.Splitting.{hit, missed}
+use Rattle.snap_compose.proofs.Splitting.{hit, missed}
 use Rattle.snap_equal.proofs.Turning.{cut}
 
 module _ (k : List ℕ) (p : Place) where

@@ -3,13 +3,13 @@ use Rattle.std.specs.Prelude.{◌≡◌, ℕ, List, [], ◌∷◌}
 use Rattle.snap_core.specs.Arrays.{Arrays}
 use Rattle.snap_core.specs.Cells.{Cells}
 use Rattle.snap_core.specs.Inputs.{IsStore, IsPacket}
-use Rattle.snap_ctx.specs.declared.fact.Fact.{Fact}
-use Rattle.snap_ctx.specs.Meets.{Meets}
-use Rattle.snap_arena.specs.declared.node.Node.{Node}
-use Rattle.snap_arena.specs.Memos.{Remembers}
-use Rattle.snap_fdd.specs.declared.leaf.Leaf.{Leaf}
-use Rattle.snap_fdd.specs.Diagrams.{Diagram, diagram, walk}
-use Rattle.snap_fdd.specs.Leaves.{answer_of, outcome_of}
+use Rattle.snap_context.specs.declared.fact.Fact.{Fact}
+use Rattle.snap_context.specs.Meets.{Meets}
+use Rattle.snap_diagrams.specs.declared.node.Node.{Node}
+use Rattle.snap_diagrams.specs.Memos.{Remembers}
+use Rattle.snap_diagrams.specs.declared.leaf.Leaf.{Leaf}
+use Rattle.snap_diagrams.specs.Diagrams.{Diagram, diagram, walk}
+use Rattle.snap_diagrams.specs.Leaves.{answer_of, outcome_of}
 use Rattle.snap_equal.specs.declared.sure.Memos.{Memos}
 use Rattle.snap_equal.specs.Same.{SameOutcome}
 use Rattle.snap_equal.specs.Weaker.{facts_code}

@@ -3,11 +3,11 @@ use Rattle.std.specs.Prelude.{◌≡◌, ℕ, ◌-◌, ◌%◌, ◌^◌, ◌<◌
 use Rattle.snap_core.specs.declared.place.Place.{Place}
 use Rattle.snap_core.specs.declared.policy.Update.{Update}
 use Rattle.snap_core.specs.Arrays.{same_place, place_at, has}
-use Rattle.snap_ctx.specs.Classes.{wrap}
-use Rattle.snap_ctx.specs.View.{View}
-use Rattle.snap_chain.specs.Additions.{IsAddition, added}
-use Rattle.snap_equal.specs.declared.tally.Sign.{Sign}
-use Rattle.snap_equal.specs.declared.tally.Sign.TheVariants.{Plus, Minus}
+use Rattle.snap_context.specs.Classes.{wrap}
+use Rattle.snap_context.specs.View.{View}
+use Rattle.snap_compose.specs.Additions.{IsAddition, added}
+use Rattle.snap_equal.specs.declared.tally.Direction.{Direction}
+use Rattle.snap_equal.specs.declared.tally.Direction.TheVariants.{Plus, Minus}
 use Rattle.snap_equal.specs.Inputs.{IsUpdate}
 use Rattle.snap_equal.specs.Told.{On}
 
@@ -28,20 +28,20 @@ abbrev pub AddOutside : ℕ → List Update → Type 0
 AddOutside mixed us = All (λ u. has mixed u.var ≡ false → IsAddition u.op) us
 
 -- an addition of a variable outside the set
-pub record IsSum (mixed comps vars : ℕ) (u : Update) : Type 0 where
+pub record IsSum (mixed comps arrays : ℕ) (u : Update) : Type 0 where
   pub is : IsUpdate comps u
   pub adds : IsAddition u.op
   pub small : added u.op < 2 ^ 64
   pub outside : has mixed u.var ≡ false
-  pub var : u.var < vars
+  pub var : u.var < arrays
 
 -- a number with a sign, modulo 2^64
-abbrev pub signed : Sign → ℕ → ℕ
+abbrev pub signed : Direction → ℕ → ℕ
 signed Plus n = n
 signed Minus n = wrap 0 (2 ^ 64 - n % 2 ^ 64)
 
 -- what several add to a place with a sign
-abbrev pub signed_total : Sign → List Update → List ℕ → Place → ℕ
+abbrev pub signed_total : Direction → List Update → List ℕ → Place → ℕ
 signed_total sign [] k q = 0
 signed_total sign (u ∷ us) k q = wrap (share_of u (signed sign (added u.op)) k q) (signed_total sign us k q)
 

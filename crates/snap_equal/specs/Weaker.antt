@@ -1,10 +1,10 @@
 -- Contexts of some of the facts of others.
 use Rattle.std.specs.Prelude.{◌≡◌, ℕ, List, [], ◌∷◌, ◌++◌, length, if◌then◌else◌}
 use Rattle.snap_core.specs.Arrays.{Arrays}
-use Rattle.snap_arena.specs.Codes.{test_code}
-use Rattle.snap_ctx.specs.declared.fact.Fact.{Fact}
-use Rattle.snap_ctx.specs.Meets.{Meets}
-use Rattle.snap_ctx.specs.View.{View}
+use Rattle.snap_diagrams.specs.Codes.{test_code}
+use Rattle.snap_context.specs.declared.fact.Fact.{Fact}
+use Rattle.snap_context.specs.Meets.{Meets}
+use Rattle.snap_context.specs.View.{View}
 
 -- as many components, and what meets the facts of v meets those of w
 pub record IsWeaker (v w : View) : Type 0 where

@@ -1,7 +1,7 @@
 //! The comparison of two diagrams.
 
 ghost use Rattle.std.specs.Prelude.{◌≡◌, ◌≤◌, IfOk, OnOk, length, true};
-ghost use Rattle.snap_fdd.specs.Diagrams.{diagram};
+ghost use Rattle.snap_diagrams.specs.Diagrams.{diagram};
 ghost use Rattle.snap_equal.specs.Asked.{AreAsked};
 ghost use Rattle.snap_equal.specs.Inputs.{IsLeaf, IsTest, space};
 ghost use Rattle.snap_equal.specs.Leaves.{AreRemembered, DiagramsDoSame, LeavesDoSame};
@@ -12,18 +12,18 @@ use crate::agreeing::agree;
 use crate::leaves::same_leaves;
 use crate::marks::Marks;
 use crate::stop::Stop;
-use crate::sure::{Memos, Plan, is_joined, same};
-use snap_arena::node::Node;
-use snap_arena::nodes::Nodes;
-use snap_arena::numbers::Numbers;
+use crate::sure::{ComparisonPlan, Memos, is_joined, same};
+use snap_context::context::{Assumed, Context};
+use snap_context::example::example;
 use snap_core::NoMemory;
 use snap_core::packet::Packet;
 use snap_core::policy::Test;
 use snap_core::store::Store;
-use snap_ctx::context::{Assumed, Context};
-use snap_fdd::leaf::Leaf;
-use snap_fdd::pick::look;
-use snap_model::example::example;
+use snap_diagrams::leaf::Leaf;
+use snap_diagrams::node::Node;
+use snap_diagrams::nodes::Nodes;
+use snap_diagrams::numbers::Numbers;
+use snap_diagrams::pick::look;
 use std::alloc::Global;
 
 /// How two diagrams compare.
@@ -39,9 +39,9 @@ pub enum Compared {
 const MOST_FACTS: usize = 4_294_967_295;
 
 // A store and a packet that meet the context.
-fn differ(alloc: Global, ctx: &Context, vars: u16) -> Result<Compared, NoMemory>
-    requires { AreBelow vars ctx.now }
-    ensures { IfOk result (IsAnswer ctx.now vars (λ m k. ⊥)) }
+fn differ(alloc: Global, ctx: &Context, arrays: u16) -> Result<Compared, NoMemory>
+    requires { AreBelow arrays ctx.now }
+    ensures { IfOk result (IsAnswer ctx.now arrays (λ m k. ⊥)) }
 {
     let (store, packet) = example(alloc, ctx)?;
     Ok(Compared::Differ { store, packet })
@@ -52,26 +52,26 @@ fn differ(alloc: Global, ctx: &Context, vars: u16) -> Result<Compared, NoMemory>
 fn compare_leaves(
     alloc: Global,
     ctx: &Context,
-    vars: u16,
+    arrays: u16,
     left: &Leaf,
     right: &Leaf,
 ) -> Result<Compared, NoMemory>
-    requires few { vars ≤ 64 }
-    requires facts { AreBelow vars ctx.now }
-    requires left { IsLeaf (space ctx.now vars) left.now }
-    requires right { IsLeaf (space ctx.now vars) right.now }
-    ensures { IfOk result (IsAnswer ctx.now vars (LeavesDoSame left.now right.now)) }
+    requires few { arrays ≤ 64 }
+    requires facts { AreBelow arrays ctx.now }
+    requires left { IsLeaf (space ctx.now arrays) left.now }
+    requires right { IsLeaf (space ctx.now arrays) right.now }
+    ensures { IfOk result (IsAnswer ctx.now arrays (LeavesDoSame left.now right.now)) }
 {
-    match same_leaves(alloc, ctx, vars, left, right) {
+    match same_leaves(alloc, ctx, arrays, left, right) {
         Ok(true) => Ok(Compared::Same),
-        Ok(false) => differ(alloc, ctx, vars),
+        Ok(false) => differ(alloc, ctx, arrays),
         Err(Stop::NoMemory) => Err(NoMemory),
         Err(Stop::Split(test)) => {
-            let compared = compare_leaves_where(alloc, ctx, vars, &test, true, left, right)?;
+            let compared = compare_leaves_where(alloc, ctx, arrays, &test, true, left, right)?;
             if let Compared::Differ { .. } = compared {
                 return Ok(compared);
             }
-            compare_leaves_where(alloc, ctx, vars, &test, false, left, right)
+            compare_leaves_where(alloc, ctx, arrays, &test, false, left, right)
         }
     }
 }
@@ -81,50 +81,50 @@ fn compare_leaves(
 fn compare_leaves_where(
     alloc: Global,
     ctx: &Context,
-    vars: u16,
+    arrays: u16,
     test: &Test,
     yes: bool,
     left: &Leaf,
     right: &Leaf,
 ) -> Result<Compared, NoMemory>
-    requires few { vars ≤ 64 }
-    requires facts { AreBelow vars ctx.now }
-    requires test { IsTest (space ctx.now vars) test.now }
-    requires left { IsLeaf (space ctx.now vars) left.now }
-    requires right { IsLeaf (space ctx.now vars) right.now }
-    ensures { IfOk result (IsAnswer ctx.now vars (Where test.now yes (LeavesDoSame left.now right.now))) }
+    requires few { arrays ≤ 64 }
+    requires facts { AreBelow arrays ctx.now }
+    requires test { IsTest (space ctx.now arrays) test.now }
+    requires left { IsLeaf (space ctx.now arrays) left.now }
+    requires right { IsLeaf (space ctx.now arrays) right.now }
+    ensures { IfOk result (IsAnswer ctx.now arrays (Where test.now yes (LeavesDoSame left.now right.now))) }
 {
     if ctx.facts().len() >= MOST_FACTS {
         return Err(NoMemory);
     }
     match ctx.assume(test, yes)? {
         Assumed::Impossible => Ok(Compared::Same),
-        Assumed::More(more) => compare_leaves(alloc, &more, vars, left, right),
+        Assumed::More(more) => compare_leaves(alloc, &more, arrays, left, right),
     }
 }
 
 // Whether two diagrams agree without any test or, where several ways lead to one of them, surely do the same.
 fn are_same(
     memos: &mut Memos,
-    plan: &Plan,
+    plan: &ComparisonPlan,
     ctx: &Context,
-    vars: u16,
+    arrays: u16,
     left: &Nodes<Leaf>,
     first: u64,
     right: &Nodes<Leaf>,
     second: u64,
 ) -> Result<bool, NoMemory>
-    requires { AreAsked ctx.now vars plan.now left.now right.now first second memos.old }
+    requires { AreAsked ctx.now arrays plan.now left.now right.now first second memos.old }
     ensures same { IfOk result (λ yes. yes ≡ true → On ctx.now (DiagramsDoSame (diagram left.now first) (diagram right.now second))) }
     ensures memos { OnOk result (AreRemembered (length ctx.now.classes) left.now right.now memos.new) }
 {
     if is_joined(plan, first, second) {
-        same(memos, plan, ctx, vars, left, first, right, second)
+        same(memos, plan, ctx, arrays, left, first, right, second)
     } else {
         agree(
             &mut memos.agreed,
             &plan.plain,
-            vars,
+            arrays,
             left,
             first,
             right,
@@ -137,45 +137,47 @@ fn are_same(
 #[cycle(compare_under)]
 fn compare_under(
     memos: &mut Memos,
-    plan: &Plan,
+    plan: &ComparisonPlan,
     ctx: &Context,
-    vars: u16,
+    arrays: u16,
     left: &Nodes<Leaf>,
     first: u64,
     right: &Nodes<Leaf>,
     second: u64,
 ) -> Result<Compared, NoMemory>
-    requires facts { AreBelow vars ctx.now }
-    requires asked { AreAsked ctx.now vars plan.now left.now right.now first second memos.old }
-    ensures compared { IfOk result (IsAnswer ctx.now vars (DiagramsDoSame (diagram left.now first) (diagram right.now second))) }
+    requires facts { AreBelow arrays ctx.now }
+    requires asked { AreAsked ctx.now arrays plan.now left.now right.now first second memos.old }
+    ensures compared { IfOk result (IsAnswer ctx.now arrays (DiagramsDoSame (diagram left.now first) (diagram right.now second))) }
     ensures memos { OnOk result (AreRemembered (length ctx.now.classes) left.now right.now memos.new) }
 {
-    if are_same(memos, plan, ctx, vars, left, first, right, second)? {
+    if are_same(memos, plan, ctx, arrays, left, first, right, second)? {
         return Ok(Compared::Same);
     }
     match look(left, first) {
         Node::Ask { test, yes, no } => {
             let compared = compare_where(
-                memos, plan, ctx, vars, test, true, left, *yes, right, second,
+                memos, plan, ctx, arrays, test, true, left, *yes, right, second,
             )?;
             if let Compared::Differ { .. } = compared {
                 return Ok(compared);
             }
             compare_where(
-                memos, plan, ctx, vars, test, false, left, *no, right, second,
+                memos, plan, ctx, arrays, test, false, left, *no, right, second,
             )
         }
         Node::Leaf(leaf) => match look(right, second) {
             Node::Ask { test, yes, no } => {
                 let compared = compare_where(
-                    memos, plan, ctx, vars, test, true, left, first, right, *yes,
+                    memos, plan, ctx, arrays, test, true, left, first, right, *yes,
                 )?;
                 if let Compared::Differ { .. } = compared {
                     return Ok(compared);
                 }
-                compare_where(memos, plan, ctx, vars, test, false, left, first, right, *no)
+                compare_where(
+                    memos, plan, ctx, arrays, test, false, left, first, right, *no,
+                )
             }
-            Node::Leaf(other) => compare_leaves(left.allocator(), ctx, vars, leaf, other),
+            Node::Leaf(other) => compare_leaves(left.allocator(), ctx, arrays, leaf, other),
         },
     }
 }
@@ -184,9 +186,9 @@ fn compare_under(
 #[cycle(compare_under)]
 fn compare_where(
     memos: &mut Memos,
-    plan: &Plan,
+    plan: &ComparisonPlan,
     ctx: &Context,
-    vars: u16,
+    arrays: u16,
     test: &Test,
     yes: bool,
     left: &Nodes<Leaf>,
@@ -194,16 +196,16 @@ fn compare_where(
     right: &Nodes<Leaf>,
     second: u64,
 ) -> Result<Compared, NoMemory>
-    requires facts { AreBelow vars ctx.now }
-    requires test { IsTest (space ctx.now vars) test.now }
-    requires asked { AreAsked ctx.now vars plan.now left.now right.now first second memos.old }
-    ensures compared { IfOk result (IsAnswer ctx.now vars (Where test.now yes (DiagramsDoSame (diagram left.now first) (diagram right.now second)))) }
+    requires facts { AreBelow arrays ctx.now }
+    requires test { IsTest (space ctx.now arrays) test.now }
+    requires asked { AreAsked ctx.now arrays plan.now left.now right.now first second memos.old }
+    ensures compared { IfOk result (IsAnswer ctx.now arrays (Where test.now yes (DiagramsDoSame (diagram left.now first) (diagram right.now second)))) }
     ensures memos { OnOk result (AreRemembered (length ctx.now.classes) left.now right.now memos.new) }
 {
     match ctx.assume(test, yes)? {
         Assumed::Impossible => Ok(Compared::Same),
         Assumed::More(more) => {
-            compare_under(memos, plan, &more, vars, left, first, right, second)
+            compare_under(memos, plan, &more, arrays, left, first, right, second)
         }
     }
 }
@@ -217,15 +219,15 @@ pub fn compare(
     right: &Nodes<Leaf>,
     second: u64,
     comps: u16,
-    vars: u16,
+    arrays: u16,
 ) -> Result<Compared, NoMemory>
     requires comps { comps ≤ 64 }
-    requires vars { vars ≤ 64 }
-    requires left { CanBeCompared comps vars left.now first }
-    requires right { CanBeCompared comps vars right.now second }
-    ensures { IfOk result (IsCompared comps vars left.now first right.now second) }
+    requires arrays { arrays ≤ 64 }
+    requires left { CanBeCompared comps arrays left.now first }
+    requires right { CanBeCompared comps arrays right.now second }
+    ensures { IfOk result (IsCompared comps arrays left.now first right.now second) }
 {
-    let plan = Plan {
+    let plan = ComparisonPlan {
         plain: Context::empty(left.allocator(), comps)?,
         left: Marks::new(left, first)?,
         right: Marks::new(right, second)?,
@@ -235,5 +237,5 @@ pub fn compare(
         agreed: Numbers::new(left.allocator()),
         met: Numbers::new(left.allocator()),
     };
-    compare_under(&mut memos, &plan, &ctx, vars, left, first, right, second)
+    compare_under(&mut memos, &plan, &ctx, arrays, left, first, right, second)
 }

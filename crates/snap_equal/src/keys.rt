@@ -3,10 +3,10 @@
 ghost use Rattle.std.specs.Prelude.{◌≡◌, ◌∷◌, ◌++◌, IfOk, OnOk};
 ghost use Rattle.snap_equal.specs.Weaker.{fact_code, facts_code};
 
-use snap_arena::codes::push_test;
+use snap_context::fact::Fact;
+use snap_context::facts::Facts;
 use snap_core::NoMemory;
-use snap_ctx::fact::Fact;
-use snap_ctx::facts::Facts;
+use snap_diagrams::codes::push_test;
 use std::alloc::Global;
 
 fn push_fact(code: &mut Vec<u64>, fact: &Fact) -> Result<(), NoMemory>

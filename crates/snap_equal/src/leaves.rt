@@ -3,27 +3,27 @@
 ghost use Rattle.std.specs.Prelude.{◌≡◌, ◌≤◌, MatchResult};
 ghost use Rattle.snap_equal.specs.Inputs.{IsLeaf, space};
 ghost use Rattle.snap_equal.specs.Leaves.{LeavesDoSame};
-ghost use Rattle.snap_equal.specs.Told.{IsStop, Tells};
+ghost use Rattle.snap_equal.specs.Told.{IsStop, Decides};
 
 use crate::outs::same_packets;
 use crate::stop::Stop;
 use crate::stores::same_stores;
-use snap_ctx::context::Context;
-use snap_fdd::leaf::Leaf;
+use snap_context::context::Context;
+use snap_diagrams::leaf::Leaf;
 use std::alloc::Global;
 
 /// Whether two leaves do the same.
 pub(crate) fn same_leaves(
     alloc: Global,
     ctx: &Context,
-    vars: u16,
+    arrays: u16,
     left: &Leaf,
     right: &Leaf,
 ) -> Result<bool, Stop>
-    requires few { vars ≤ 64 }
-    requires left { IsLeaf (space ctx.now vars) left.now }
-    requires right { IsLeaf (space ctx.now vars) right.now }
-    ensures { MatchResult result (Tells ctx.now (LeavesDoSame left.now right.now)) (IsStop ctx.now vars) }
+    requires few { arrays ≤ 64 }
+    requires left { IsLeaf (space ctx.now arrays) left.now }
+    requires right { IsLeaf (space ctx.now arrays) right.now }
+    ensures { MatchResult result (Decides ctx.now (LeavesDoSame left.now right.now)) (IsStop ctx.now arrays) }
 {
     match left {
         Leaf::Race => Ok(true),
@@ -33,7 +33,7 @@ pub(crate) fn same_leaves(
                 if !same_packets(alloc, ctx, first.outs.items(), second.outs.items())? {
                     return Ok(false);
                 }
-                same_stores(alloc, ctx, vars, first.ups.items(), second.ups.items())
+                same_stores(alloc, ctx, arrays, first.ups.items(), second.ups.items())
             }
         },
     }

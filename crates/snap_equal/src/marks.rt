@@ -3,11 +3,11 @@
 ghost use Rattle.std.specs.Prelude.{◌≡◌, ◌<◌, length};
 
 use crate::names::{NOTHING, Names, either, leaf_names, test_names};
-use snap_arena::node::Node;
-use snap_arena::nodes::Nodes;
 use snap_core::NoMemory;
-use snap_fdd::leaf::Leaf;
-use snap_fdd::pick::look;
+use snap_diagrams::leaf::Leaf;
+use snap_diagrams::node::Node;
+use snap_diagrams::nodes::Nodes;
+use snap_diagrams::pick::look;
 
 /// What a diagram names, and how many tests stand on its longest path.
 #[derive(Clone, Copy)]

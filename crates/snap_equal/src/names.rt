@@ -1,9 +1,9 @@
 //! The components and arrays that tests and leaves name.
 
+use snap_context::sets::bit;
 use snap_core::lists::{Atoms, Out};
 use snap_core::policy::{Atom, Op, Term, Test, Update};
-use snap_ctx::sets::bit;
-use snap_fdd::leaf::Leaf;
+use snap_diagrams::leaf::Leaf;
 
 /// Components and arrays, a bit each.
 #[derive(Clone, Copy)]

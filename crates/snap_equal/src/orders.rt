@@ -7,9 +7,9 @@ ghost use Rattle.snap_equal.specs.Inputs.{AreOf, IsUpdate};
 ghost use Rattle.snap_equal.specs.Told.{On};
 
 use crate::places::{commute, reads_update};
+use snap_context::context::Context;
 use snap_core::NoMemory;
 use snap_core::policy::{Update, copy_updates};
-use snap_ctx::context::Context;
 use std::alloc::Global;
 
 // Which of several updates does what this one does and may be done behind all others, as far as a context tells at once.
@@ -42,7 +42,7 @@ pub(crate) fn unmatched(
     requires right { All (IsUpdate (length ctx.now.classes)) right.now }
     ensures few { IfOk result (λ r. r.0 ≤ length left.now) }
     ensures fits { IfOk result (λ r. All (IsUpdate (length ctx.now.classes)) r.1.items) }
-    ensures vars { (vars : ℕ) → AreOf vars right.now → IfOk result (λ r. AreOf vars r.1.items) }
+    ensures arrays { (arrays : ℕ) → AreOf arrays right.now → IfOk result (λ r. AreOf arrays r.1.items) }
     ensures rest { IfOk result (λ r. On ctx.now (λ m k. updates m right.now k ≡ updates (updates m r.1.items k) (drop r.0 left.now) k)) }
 {
     let mut count = left.len();

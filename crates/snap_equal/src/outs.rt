@@ -3,21 +3,21 @@
 ghost use Rattle.std.specs.Prelude.{◌≡◌, All, MatchResult, length};
 ghost use Rattle.snap_core.specs.Tests.{OutFits, after_out, results};
 ghost use Rattle.snap_equal.specs.Made.{AreSpelled, Makes, MakesAll};
-ghost use Rattle.snap_equal.specs.Told.{IsStop, Tells};
+ghost use Rattle.snap_equal.specs.Told.{IsStop, Decides};
 
 use crate::spelling::{atom_in, is_spelled, spellings};
 use crate::stop::Stop;
 use crate::terms::same_atoms;
-use snap_arena::numbers::Numbers;
+use snap_context::context::Context;
 use snap_core::lists::Out;
-use snap_ctx::context::Context;
+use snap_diagrams::numbers::Numbers;
 use std::alloc::Global;
 
 // Whether two outs make the same packet.
 fn same_out(ctx: &Context, left: &Out, right: &Out) -> Result<bool, Stop>
     requires left { OutFits (length ctx.now.classes) left.now }
     requires right { OutFits (length ctx.now.classes) right.now }
-    ensures { MatchResult result (Tells ctx.now (λ m k. after_out left.now k ≡ after_out right.now k)) (IsStop ctx.now 0) }
+    ensures { MatchResult result (Decides ctx.now (λ m k. after_out left.now k ≡ after_out right.now k)) (IsStop ctx.now 0) }
 {
     let comps = ctx.comps();
     let mut open = None;
@@ -48,7 +48,7 @@ fn has_out(
     requires outs { All (OutFits (length ctx.now.classes)) outs.now }
     requires spelled { AreSpelled ctx.now outs.now spelled.now }
     requires out { OutFits (length ctx.now.classes) out.now }
-    ensures { MatchResult result (Tells ctx.now (λ m k. Makes outs.now k (after_out out.now k))) (IsStop ctx.now 0) }
+    ensures { MatchResult result (Decides ctx.now (λ m k. Makes outs.now k (after_out out.now k))) (IsStop ctx.now 0) }
 {
     if is_spelled(alloc, ctx, outs, spelled, out)? {
         return Ok(true);
@@ -73,7 +73,7 @@ fn has_each(
     requires outs { All (OutFits (length ctx.now.classes)) outs.now }
     requires others { All (OutFits (length ctx.now.classes)) others.now }
     requires spelled { AreSpelled ctx.now others.now spelled.now }
-    ensures { MatchResult result (Tells ctx.now (λ m k. MakesAll outs.now others.now k)) (IsStop ctx.now 0) }
+    ensures { MatchResult result (Decides ctx.now (λ m k. MakesAll outs.now others.now k)) (IsStop ctx.now 0) }
 {
     for out in outs {
         if !has_out(alloc, ctx, others, spelled, out)? {
@@ -87,7 +87,7 @@ fn has_each(
 fn has_all(alloc: Global, ctx: &Context, outs: &[Out], others: &[Out]) -> Result<bool, Stop>
     requires outs { All (OutFits (length ctx.now.classes)) outs.now }
     requires others { All (OutFits (length ctx.now.classes)) others.now }
-    ensures { MatchResult result (Tells ctx.now (λ m k. MakesAll outs.now others.now k)) (IsStop ctx.now 0) }
+    ensures { MatchResult result (Decides ctx.now (λ m k. MakesAll outs.now others.now k)) (IsStop ctx.now 0) }
 {
     let spelled = spellings(alloc, ctx, others)?;
     has_each(alloc, ctx, outs, others, &spelled)
@@ -102,7 +102,7 @@ pub(crate) fn same_packets(
 ) -> Result<bool, Stop>
     requires left { All (OutFits (length ctx.now.classes)) left.now }
     requires right { All (OutFits (length ctx.now.classes)) right.now }
-    ensures { MatchResult result (Tells ctx.now (λ m k. results left.now k ≡ results right.now k)) (IsStop ctx.now 0) }
+    ensures { MatchResult result (Decides ctx.now (λ m k. results left.now k ≡ results right.now k)) (IsStop ctx.now 0) }
 {
     if !has_all(alloc, ctx, left, right)? {
         return Ok(false);

@@ -6,9 +6,9 @@ ghost use Rattle.snap_equal.specs.Inputs.{AreOf, IsUpdate};
 ghost use Rattle.snap_equal.specs.Told.{On};
 
 use crate::places::reads_place;
+use snap_context::context::Context;
 use snap_core::NoMemory;
 use snap_core::policy::{Op, Update};
-use snap_ctx::context::Context;
 use std::alloc::Global;
 
 // Whether an operation leaves the same number whatever the old one was.
@@ -44,7 +44,7 @@ pub(crate) fn standing(
 ) -> Result<Vec<Update>, NoMemory>
     requires { All (IsUpdate (length ctx.now.classes)) all.now }
     ensures fits { IfOk result (λ kept. All (IsUpdate (length ctx.now.classes)) kept.items) }
-    ensures vars { (vars : ℕ) → AreOf vars all.now → IfOk result (λ kept. AreOf vars kept.items) }
+    ensures arrays { (arrays : ℕ) → AreOf arrays all.now → IfOk result (λ kept. AreOf arrays kept.items) }
     ensures same { IfOk result (λ kept. On ctx.now (λ m k. updates m kept.items k ≡ updates m all.now k)) }
 {
     let mut kept = Vec::new(alloc);

@@ -4,19 +4,19 @@ ghost use Rattle.std.specs.Prelude.{◌≡◌, ◌≢◌, ℕ, MatchResult, leng
 ghost use Rattle.snap_core.specs.Arrays.{Arrays, number_after, place_at, update, value_of};
 ghost use Rattle.snap_core.specs.Fits.{IndexFits, OpFits};
 ghost use Rattle.snap_equal.specs.Inputs.{IsUpdate};
-ghost use Rattle.snap_equal.specs.Told.{IsStop, On, Tells};
+ghost use Rattle.snap_equal.specs.Told.{IsStop, On, Decides};
 
 use crate::stop::Stop;
 use crate::terms::{reads_apart, reads_same, same_atoms};
+use snap_context::context::Context;
 use snap_core::lists::Atoms;
 use snap_core::policy::{Atom, Op, Update};
-use snap_ctx::context::Context;
 
 // Whether two indices are equal. Two numbers that differ decide, whatever the others are.
 fn same_index(ctx: &Context, left: &[Atom], right: &[Atom]) -> Result<bool, Stop>
     requires left { IndexFits (length ctx.now.classes) left.now }
     requires right { IndexFits (length ctx.now.classes) right.now }
-    ensures { MatchResult result (Tells ctx.now (λ m k. map (λ a. value_of a k) left.now ≡ map (λ a. value_of a k) right.now)) (IsStop ctx.now 0) }
+    ensures { MatchResult result (Decides ctx.now (λ m k. map (λ a. value_of a k) left.now ≡ map (λ a. value_of a k) right.now)) (IsStop ctx.now 0) }
 {
     if left.len() != right.len() {
         return Ok(false);
@@ -40,7 +40,7 @@ fn same_index(ctx: &Context, left: &[Atom], right: &[Atom]) -> Result<bool, Stop
 pub(crate) fn is_at(ctx: &Context, update: &Update, var: u16, index: &Atoms) -> Result<bool, Stop>
     requires update { IndexFits (length ctx.now.classes) update.now.index }
     requires index { IndexFits (length ctx.now.classes) index.now }
-    ensures { MatchResult result (Tells ctx.now (λ m k. place_at update.now.var update.now.index k ≡ place_at var index.now k)) (IsStop ctx.now 0) }
+    ensures { MatchResult result (Decides ctx.now (λ m k. place_at update.now.var update.now.index k ≡ place_at var index.now k)) (IsStop ctx.now 0) }
 {
     if update.var != var {
         return Ok(false);

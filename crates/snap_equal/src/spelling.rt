@@ -4,17 +4,17 @@ ghost use Rattle.std.specs.Prelude.{◌≡◌, ◌<◌, All, IfOk, length, true}
 ghost use Rattle.snap_core.specs.Fits.{AtomFits};
 ghost use Rattle.snap_core.specs.Tests.{OutFits, after_out};
 ghost use Rattle.snap_core.specs.declared.policy.Atom.TheVariants.{Comp};
-ghost use Rattle.snap_chain.specs.Early.{atom_from};
+ghost use Rattle.snap_compose.specs.PulledBack.{atom_from};
 ghost use Rattle.snap_equal.specs.Made.{AreSpelled, Makes, packet_of};
 ghost use Rattle.snap_equal.specs.Told.{On};
 
 use crate::terms::{read, term_of};
-use snap_arena::codes::push_term;
-use snap_arena::numbers::Numbers;
+use snap_context::context::Context;
 use snap_core::NoMemory;
 use snap_core::lists::Out;
 use snap_core::policy::Atom;
-use snap_ctx::context::Context;
+use snap_diagrams::codes::push_term;
+use snap_diagrams::numbers::Numbers;
 use std::alloc::Global;
 
 /// The atom whose number a component has after an out.

@@ -3,11 +3,11 @@
 ghost use Rattle.std.specs.Prelude.{◌≡◌, MatchResult, true};
 ghost use Rattle.snap_core.specs.Tests.{passes};
 ghost use Rattle.snap_equal.specs.Inputs.{IsTest, space};
-ghost use Rattle.snap_equal.specs.Told.{IsStop, Tells};
+ghost use Rattle.snap_equal.specs.Told.{IsStop, Decides};
 
+use snap_context::context::{Context, Verdict};
 use snap_core::NoMemory;
 use snap_core::policy::Test;
-use snap_ctx::context::{Context, Verdict};
 
 /// Why a question has no answer under a context.
 #[derive(Drop)]
@@ -28,9 +28,9 @@ impl From<NoMemory> for Stop {
 }
 
 /// Whether a test on a program of so many variables passes.
-pub(crate) fn holds(ctx: &Context, vars: u16, test: Test) -> Result<bool, Stop>
-    requires { IsTest (space ctx.now vars) test }
-    ensures { MatchResult result (Tells ctx.now (λ m k. passes test m k ≡ true)) (IsStop ctx.now vars) }
+pub(crate) fn holds(ctx: &Context, arrays: u16, test: Test) -> Result<bool, Stop>
+    requires { IsTest (space ctx.now arrays) test }
+    ensures { MatchResult result (Decides ctx.now (λ m k. passes test m k ≡ true)) (IsStop ctx.now arrays) }
 {
     match ctx.decide(&test)? {
         Verdict::Always => Ok(true),

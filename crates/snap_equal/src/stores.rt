@@ -5,7 +5,7 @@ ghost use Rattle.snap_core.specs.Arrays.{updates};
 ghost use Rattle.snap_core.specs.Inputs.{IsStore};
 ghost use Rattle.snap_equal.specs.Held.{AgreeAlong};
 ghost use Rattle.snap_equal.specs.Inputs.{AreOf, IsUpdate};
-ghost use Rattle.snap_equal.specs.Told.{IsStop, On, Tells};
+ghost use Rattle.snap_equal.specs.Told.{IsStop, On, Decides};
 
 use crate::held::same_along;
 use crate::orders::unmatched;
@@ -13,11 +13,11 @@ use crate::overwritten::standing;
 use crate::places::reads_update;
 use crate::stop::Stop;
 use crate::tally::{difference, with_puts};
+use snap_context::context::Context;
 use snap_core::NoMemory;
 use snap_core::bits::op_is_small;
 use snap_core::laws::stays_small;
 use snap_core::policy::Update;
-use snap_ctx::context::Context;
 use std::alloc::Global;
 
 // How many updates do the same in both lists from the first on, as far as a context tells at once.
@@ -59,12 +59,12 @@ fn before(updates: &[Update], count: usize) -> &[Update]
 }
 
 // Whether sums add nothing anywhere.
-fn add_nothing(ctx: &Context, vars: u16, sums: &[Update]) -> Result<bool, Stop>
+fn add_nothing(ctx: &Context, arrays: u16, sums: &[Update]) -> Result<bool, Stop>
     requires sums { All (IsUpdate (length ctx.now.classes)) sums.now }
-    requires vars { AreOf vars sums.now }
-    ensures { MatchResult result (Tells ctx.now (λ m k. AgreeAlong None sums.now k (updates m sums.now k) m)) (IsStop ctx.now vars) }
+    requires arrays { AreOf arrays sums.now }
+    ensures { MatchResult result (Decides ctx.now (λ m k. AgreeAlong None sums.now k (updates m sums.now k) m)) (IsStop ctx.now arrays) }
 {
-    same_along(ctx, vars, sums, &[], sums, None)
+    same_along(ctx, arrays, sums, &[], sums, None)
 }
 
 // Whether updates make the same of a store. Where behind the common ones a variable is added to alone, what is added is
@@ -72,51 +72,51 @@ fn add_nothing(ctx: &Context, vars: u16, sums: &[Update]) -> Result<bool, Stop>
 fn same_places(
     alloc: Global,
     ctx: &Context,
-    vars: u16,
+    arrays: u16,
     left: &[Update],
     right: &[Update],
 ) -> Result<bool, Stop>
-    requires few { vars ≤ 64 }
+    requires few { arrays ≤ 64 }
     requires left { All (IsUpdate (length ctx.now.classes)) left.now }
     requires right { All (IsUpdate (length ctx.now.classes)) right.now }
-    requires vars_left { AreOf vars left.now }
-    requires vars_right { AreOf vars right.now }
-    ensures { MatchResult result (Tells ctx.now (λ m k. updates m left.now k ≡ updates m right.now k)) (IsStop ctx.now vars) }
+    requires vars_left { AreOf arrays left.now }
+    requires vars_right { AreOf arrays right.now }
+    ensures { MatchResult result (Decides ctx.now (λ m k. updates m left.now k ≡ updates m right.now k)) (IsStop ctx.now arrays) }
 {
     let done = common(ctx, left, right);
     let first = behind(left, done);
     let second = behind(right, done);
     let mixed = with_puts(with_puts(0, first), second);
-    let sums = difference(alloc, ctx, vars, mixed, first, second)?;
-    if !add_nothing(ctx, vars, &sums)? {
+    let sums = difference(alloc, ctx, arrays, mixed, first, second)?;
+    if !add_nothing(ctx, arrays, &sums)? {
         return Ok(false);
     }
-    if !same_along(ctx, vars, left, right, first, Some(mixed))? {
+    if !same_along(ctx, arrays, left, right, first, Some(mixed))? {
         return Ok(false);
     }
-    same_along(ctx, vars, left, right, second, Some(mixed))
+    same_along(ctx, arrays, left, right, second, Some(mixed))
 }
 
 // Whether updates surely make the same of a store: what is left of them without those that both do last does.
 fn surely_same(
     alloc: Global,
     ctx: &Context,
-    vars: u16,
+    arrays: u16,
     left: &[Update],
     right: &[Update],
 ) -> Result<bool, NoMemory>
-    requires few { vars ≤ 64 }
+    requires few { arrays ≤ 64 }
     requires left { All (IsUpdate (length ctx.now.classes)) left.now }
     requires right { All (IsUpdate (length ctx.now.classes)) right.now }
-    requires vars_left { AreOf vars left.now }
-    requires vars_right { AreOf vars right.now }
+    requires vars_left { AreOf arrays left.now }
+    requires vars_right { AreOf arrays right.now }
     ensures { IfOk result (λ yes. yes ≡ true → On ctx.now (λ m k. updates m left.now k ≡ updates m right.now k)) }
 {
     let (count, rest) = unmatched(alloc, ctx, left, right)?;
     if count == left.len() {
         return Ok(false);
     }
-    match same_places(alloc, ctx, vars, before(left, count), &rest) {
+    match same_places(alloc, ctx, arrays, before(left, count), &rest) {
         Ok(yes) => Ok(yes),
         Err(Stop::Split(_)) => Ok(false),
         Err(Stop::NoMemory) => Err(NoMemory),
@@ -128,21 +128,21 @@ fn surely_same(
 fn same_standing(
     alloc: Global,
     ctx: &Context,
-    vars: u16,
+    arrays: u16,
     left: &[Update],
     right: &[Update],
 ) -> Result<bool, Stop>
-    requires few { vars ≤ 64 }
+    requires few { arrays ≤ 64 }
     requires left { All (IsUpdate (length ctx.now.classes)) left.now }
     requires right { All (IsUpdate (length ctx.now.classes)) right.now }
-    requires vars_left { AreOf vars left.now }
-    requires vars_right { AreOf vars right.now }
-    ensures { MatchResult result (Tells ctx.now (λ m k. updates m left.now k ≡ updates m right.now k)) (IsStop ctx.now vars) }
+    requires vars_left { AreOf arrays left.now }
+    requires vars_right { AreOf arrays right.now }
+    ensures { MatchResult result (Decides ctx.now (λ m k. updates m left.now k ≡ updates m right.now k)) (IsStop ctx.now arrays) }
 {
-    if surely_same(alloc, ctx, vars, left, right)? {
+    if surely_same(alloc, ctx, arrays, left, right)? {
         return Ok(true);
     }
-    same_places(alloc, ctx, vars, left, right)
+    same_places(alloc, ctx, arrays, left, right)
 }
 
 /// Whether updates make the same of a store. What others overwrite is let go first: beside a put all additions on its
@@ -150,18 +150,18 @@ fn same_standing(
 pub(crate) fn same_stores(
     alloc: Global,
     ctx: &Context,
-    vars: u16,
+    arrays: u16,
     left: &[Update],
     right: &[Update],
 ) -> Result<bool, Stop>
-    requires few { vars ≤ 64 }
+    requires few { arrays ≤ 64 }
     requires left { All (IsUpdate (length ctx.now.classes)) left.now }
     requires right { All (IsUpdate (length ctx.now.classes)) right.now }
-    requires vars_left { AreOf vars left.now }
-    requires vars_right { AreOf vars right.now }
-    ensures { MatchResult result (Tells ctx.now (λ m k. updates m left.now k ≡ updates m right.now k)) (IsStop ctx.now vars) }
+    requires vars_left { AreOf arrays left.now }
+    requires vars_right { AreOf arrays right.now }
+    ensures { MatchResult result (Decides ctx.now (λ m k. updates m left.now k ≡ updates m right.now k)) (IsStop ctx.now arrays) }
 {
     let first = standing(alloc, ctx, left)?;
     let second = standing(alloc, ctx, right)?;
-    same_standing(alloc, ctx, vars, &first, &second)
+    same_standing(alloc, ctx, arrays, &first, &second)
 }

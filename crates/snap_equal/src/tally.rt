@@ -5,22 +5,22 @@ ghost use Rattle.snap_core.specs.declared.place.Place.{Place};
 ghost use Rattle.snap_core.specs.Arrays.{place_at, has};
 ghost use Rattle.snap_core.specs.declared.policy.Op.TheVariants.{Add};
 ghost use Rattle.snap_core.specs.declared.policy.Update.{Update as UpdateData};
-ghost use Rattle.snap_ctx.specs.Classes.{wrap};
-ghost use Rattle.snap_chain.specs.Additions.{added_up};
+ghost use Rattle.snap_context.specs.Classes.{wrap};
+ghost use Rattle.snap_compose.specs.Additions.{added_up};
 ghost use Rattle.snap_equal.specs.Inputs.{AreOf, IsUpdate};
 ghost use Rattle.snap_equal.specs.Tally.{AddOutside, IsDifference, IsSum, share_of, signed, signed_total, total};
 ghost use Rattle.snap_equal.specs.Told.{On};
 
 use crate::places::reads_place;
+use snap_context::context::Context;
+use snap_context::sets::is_in;
 use snap_core::NoMemory;
 use snap_core::policy::{Op, Update};
-use snap_ctx::context::Context;
-use snap_ctx::sets::is_in;
 use std::alloc::Global;
 
 /// Whether a number is added or taken away.
 #[derive(Clone, Copy, Debug)]
-enum Sign {
+enum Direction {
     Plus,
     Minus,
 }
@@ -39,14 +39,14 @@ pub(crate) fn with_puts(set: u64, updates: &[Update]) -> u64
     ensures more { (v : ℕ) → has result v ≡ false → has set v ≡ false }
     ensures puts { AddOutside result updates.now }
 {
-    let mut vars = set;
+    let mut arrays = set;
     for update in updates {
         match update.op {
-            Op::Put(_) => vars |= only(update.var),
+            Op::Put(_) => arrays |= only(update.var),
             Op::Add(_) => {}
         }
     }
-    vars
+    arrays
 }
 
 // An addition with so much more, modulo 2^64.
@@ -60,12 +60,12 @@ fn plus(op: Op, more: u64) -> Op
 }
 
 // A number with a sign, modulo 2^64.
-fn signed(sign: Sign, num: u64) -> u64
+fn signed(sign: Direction, num: u64) -> u64
     ensures { result ≡ signed sign num }
 {
     match sign {
-        Sign::Plus => num,
-        Sign::Minus => 0u64.wrapping_sub(num),
+        Direction::Plus => num,
+        Direction::Minus => 0u64.wrapping_sub(num),
     }
 }
 
@@ -87,17 +87,17 @@ fn position(ctx: &Context, sums: &[Update], update: &Update) -> Option<usize>
 // Adds a number to the sum at the place of an update.
 fn add(
     ctx: &Context,
-    vars: u16,
+    arrays: u16,
     mixed: u64,
     sums: &mut Vec<Update>,
     update: &Update,
     num: u64,
 ) -> Result<(), NoMemory>
-    requires sums { All (IsSum mixed (length ctx.now.classes) vars) sums.old.items }
+    requires sums { All (IsSum mixed (length ctx.now.classes) arrays) sums.old.items }
     requires update { IsUpdate (length ctx.now.classes) update.now }
-    requires var { update.now.var < vars }
+    requires var { update.now.var < arrays }
     requires outside { has mixed update.now.var ≡ false }
-    ensures sums { OnOk result (All (IsSum mixed (length ctx.now.classes) vars) sums.new.items) }
+    ensures sums { OnOk result (All (IsSum mixed (length ctx.now.classes) arrays) sums.new.items) }
     ensures total { OnOk result (On ctx.now (λ m k. (q : Place) → total sums.new.items k q ≡ wrap (total sums.old.items k q) (share_of update.now num k q))) }
 {
     match position(ctx, sums, update) {
@@ -117,16 +117,16 @@ fn add(
 // Adds what updates add at variables outside a set, or what they don't.
 fn count(
     ctx: &Context,
-    vars: u16,
+    arrays: u16,
     mixed: u64,
     sums: &mut Vec<Update>,
     updates: &[Update],
-    sign: Sign,
+    sign: Direction,
 ) -> Result<(), NoMemory>
-    requires sums { All (IsSum mixed (length ctx.now.classes) vars) sums.old.items }
+    requires sums { All (IsSum mixed (length ctx.now.classes) arrays) sums.old.items }
     requires updates { All (IsUpdate (length ctx.now.classes)) updates.now }
-    requires vars { AreOf vars updates.now }
-    ensures sums { OnOk result (All (IsSum mixed (length ctx.now.classes) vars) sums.new.items) }
+    requires arrays { AreOf arrays updates.now }
+    ensures sums { OnOk result (All (IsSum mixed (length ctx.now.classes) arrays) sums.new.items) }
     ensures total { OnOk result (On ctx.now (λ m k. (q : Place) → has mixed q.var ≡ false → total sums.new.items k q ≡ wrap (total sums.old.items k q) (signed_total sign updates.now k q))) }
 {
     for update in updates {
@@ -134,7 +134,7 @@ fn count(
             continue;
         }
         match update.op {
-            Op::Add(num) => add(ctx, vars, mixed, sums, update, signed(sign, num))?,
+            Op::Add(num) => add(ctx, arrays, mixed, sums, update, signed(sign, num))?,
             Op::Put(_) => {}
         }
     }
@@ -157,10 +157,10 @@ fn nonzero(
     sums: &[Update],
     mixed: u64,
     comps: u16,
-    vars: u16,
+    arrays: u16,
 ) -> Result<Vec<Update>, NoMemory>
-    requires { All (IsSum mixed comps vars) sums.now }
-    ensures sums { IfOk result (λ kept. All (IsSum mixed comps vars) kept.items) }
+    requires { All (IsSum mixed comps arrays) sums.now }
+    ensures sums { IfOk result (λ kept. All (IsSum mixed comps arrays) kept.items) }
     ensures total { IfOk result (λ kept. (k : List ℕ) (q : Place) → total kept.items k q ≡ total sums.now k q) }
 {
     let mut kept = Vec::new(alloc);
@@ -176,20 +176,20 @@ fn nonzero(
 pub(crate) fn difference(
     alloc: Global,
     ctx: &Context,
-    vars: u16,
+    arrays: u16,
     mixed: u64,
     left: &[Update],
     right: &[Update],
 ) -> Result<Vec<Update>, NoMemory>
     requires left { All (IsUpdate (length ctx.now.classes)) left.now }
     requires right { All (IsUpdate (length ctx.now.classes)) right.now }
-    requires vars_left { AreOf vars left.now }
-    requires vars_right { AreOf vars right.now }
-    ensures sums { IfOk result (λ sums. All (IsSum mixed (length ctx.now.classes) vars) sums.items) }
+    requires vars_left { AreOf arrays left.now }
+    requires vars_right { AreOf arrays right.now }
+    ensures sums { IfOk result (λ sums. All (IsSum mixed (length ctx.now.classes) arrays) sums.items) }
     ensures difference { IfOk result (λ sums. IsDifference ctx.now mixed left.now right.now sums.items) }
 {
     let mut sums = Vec::new(alloc);
-    count(ctx, vars, mixed, &mut sums, left, Sign::Plus)?;
-    count(ctx, vars, mixed, &mut sums, right, Sign::Minus)?;
-    nonzero(alloc, &sums, mixed, ctx.comps(), vars)
+    count(ctx, arrays, mixed, &mut sums, left, Direction::Plus)?;
+    count(ctx, arrays, mixed, &mut sums, right, Direction::Minus)?;
+    nonzero(alloc, &sums, mixed, ctx.comps(), arrays)
 }

@@ -4,14 +4,14 @@ ghost use Rattle.std.specs.Prelude.{◌≡◌, ◌≢◌, ◌↔◌, ℕ, IsTrue
 ghost use Rattle.snap_core.specs.Arrays.{value_of};
 ghost use Rattle.snap_core.specs.Fits.{AtomFits};
 ghost use Rattle.snap_core.specs.Tests.{TermFits, term_value};
-ghost use Rattle.snap_ctx.specs.Classes.{shift};
-ghost use Rattle.snap_chain.specs.Early.{term_of};
-ghost use Rattle.snap_equal.specs.Told.{IsStop, On, Tells};
+ghost use Rattle.snap_context.specs.Classes.{shift};
+ghost use Rattle.snap_compose.specs.PulledBack.{term_of};
+ghost use Rattle.snap_equal.specs.Told.{IsStop, On, Decides};
 
 use crate::stop::{Stop, holds};
+use snap_context::context::Context;
 use snap_core::bits::know_term;
 use snap_core::policy::{Atom, Term, Test};
-use snap_ctx::context::Context;
 
 /// The term with this much more, modulo 2^64.
 pub(crate) fn shifted(term: Term, by: u64) -> Term
@@ -58,7 +58,7 @@ fn are_spelled_same(left: Term, right: Term) -> bool
 pub(crate) fn same_terms(ctx: &Context, left: Term, right: Term) -> Result<bool, Stop>
     requires left { TermFits (length ctx.now.classes) left }
     requires right { TermFits (length ctx.now.classes) right }
-    ensures { MatchResult result (Tells ctx.now (λ m k. term_value left k ≡ term_value right k)) (IsStop ctx.now 0) }
+    ensures { MatchResult result (Decides ctx.now (λ m k. term_value left k ≡ term_value right k)) (IsStop ctx.now 0) }
 {
     let first = read(ctx, left);
     let second = read(ctx, right);
@@ -73,7 +73,7 @@ pub(crate) fn same_terms(ctx: &Context, left: Term, right: Term) -> Result<bool,
 fn ask_terms(ctx: &Context, left: Term, right: Term) -> Result<bool, Stop>
     requires left { TermFits (length ctx.now.classes) left }
     requires right { TermFits (length ctx.now.classes) right }
-    ensures { MatchResult result (Tells ctx.now (λ m k. term_value left k ≡ term_value right k)) (IsStop ctx.now 0) }
+    ensures { MatchResult result (Decides ctx.now (λ m k. term_value left k ≡ term_value right k)) (IsStop ctx.now 0) }
 {
     know_term(left);
     know_term(right);
@@ -113,7 +113,7 @@ fn ask_terms(ctx: &Context, left: Term, right: Term) -> Result<bool, Stop>
 pub(crate) fn same_atoms(ctx: &Context, left: Atom, right: Atom) -> Result<bool, Stop>
     requires left { AtomFits (length ctx.now.classes) left }
     requires right { AtomFits (length ctx.now.classes) right }
-    ensures { MatchResult result (Tells ctx.now (λ m k. value_of left k ≡ value_of right k)) (IsStop ctx.now 0) }
+    ensures { MatchResult result (Decides ctx.now (λ m k. value_of left k ≡ value_of right k)) (IsStop ctx.now 0) }
 {
     same_terms(ctx, term_of(left), term_of(right))
 }

@@ -1,18 +1,18 @@
 //! Contexts of those facts that bear on what diagrams name.
 
 ghost use Rattle.std.specs.Prelude.{IfOk, IfSome, length};
-ghost use Rattle.snap_ctx.specs.declared.context.Assumed.TheVariants.{More};
-ghost use Rattle.snap_ctx.specs.Answers.{IsAssumed};
-ghost use Rattle.snap_ctx.specs.Classes.{IsTest};
+ghost use Rattle.snap_context.specs.declared.context.Assumed.TheVariants.{More};
+ghost use Rattle.snap_context.specs.Answers.{IsAssumed};
+ghost use Rattle.snap_context.specs.Classes.{IsTest};
 ghost use Rattle.snap_equal.specs.Weaker.{IsWeaker};
 
 use crate::names::{Names, index_names, term_names, test_names};
+use snap_context::context::{Assumed, Context};
+use snap_context::fact::Fact;
+use snap_context::facts::Facts;
+use snap_context::sets::is_in;
 use snap_core::NoMemory;
 use snap_core::policy::Test;
-use snap_ctx::context::{Assumed, Context};
-use snap_ctx::fact::Fact;
-use snap_ctx::facts::Facts;
-use snap_ctx::sets::is_in;
 use std::alloc::Global;
 
 // The most facts of such a context: each is assumed anew.

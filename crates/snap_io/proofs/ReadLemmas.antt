@@ -34,12 +34,12 @@ AgreesWith-more (Some files) now old new shown at count same agrees grows name k
     let file = file_of files (lines_name new) in
     let named : file_of files shown ≡ file = ap (file_of files) (name ∙ sym kept) in
     let was : file_of files (lines_name old) ≡ file = ap (file_of files) (sym kept) in
-    let grew : GrowsBy file at count (lines_held old) (lines_held new) = subst (λ (f : List ℕ). GrowsBy f at count (lines_held old) (lines_held new)) named grows in
+    let extends_arena : GrowsBy file at count (lines_held old) (lines_held new) = subst (λ (f : List ℕ). GrowsBy f at count (lines_held old) (lines_held new)) named grows in
     let had : Agrees old file = subst (Agrees old) was agrees.agrees in
-    let fits = AreAt-more file (lines_given old) at count (lines_held old) (lines_held new) had.held place len grew in
+    let fits = AreAt-more file (lines_given old) at count (lines_held old) (lines_held new) had.held place len extends_arena in
     let here : Agrees new file = record {
       held = fits ∙ ap (λ n. take (length (lines_held new)) (drop n file)) (sym given);
-      ended = λ end. omega (arith, grew.ended (ended end), ended end);
+      ended = λ end. omega (arith, extends_arena.ended (ended end), ended end);
     } in
     subst (λ (o : Option Files). AgreesWith o new) (sym same) (record { agrees = here })
 

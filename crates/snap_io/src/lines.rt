@@ -88,7 +88,7 @@ impl Lines {
     }
 
     /// Whether the bytes read and not yet given hold an LF. Where they do, `next` makes no read.
-    pub fn whole(&self) -> bool
+    pub fn holds_line(&self) -> bool
         ensures { IsTrue result ↔ HoldsLine self.now }
     {
         self.held.before() < self.held.len()
@@ -120,7 +120,7 @@ impl Lines {
         ensures not_failed { HoldsLine self.old → result ≢ Err LinesFault.Failed }
         ensures not_many { HoldsLine self.old → result ≢ Err LinesFault.ManyBytes }
     {
-        if !self.whole() {
+        if !self.holds_line() {
             self.read_line(shelf)?;
         }
         self.give()

@@ -32,17 +32,17 @@ module _ (text : List ℕ) where
   one_fault : (n m : ℕ) → IsBadByte text n → IsBadNumber text m → ⊥
   one_fault n m a b = not_both a.1 b.1 (same_stop text a.0 b.0 n a.1 m b.1 a.2 (at_bad_byte a.3) b.2 (at_bad_number b.3)).rest a.3 b.3
 
-pub finds_once : (text : List ℕ) (a b : Result (List Token) LexFault) → Finds text a → Finds text b → a ≡ b
-finds_once text (Ok ts) (Ok us) h k = ap (λ x. Ok x) (one_spelling text ts us h k)
-finds_once text (Ok ts) (Err (BadByte m)) h k = absurd (spelled_well text ts m h k)
-finds_once text (Ok ts) (Err (BadNumber m)) h k = absurd (numbered_well text ts m h k)
-finds_once text (Ok ts) (Err NoMemory) h k = absurd k
-finds_once text (Err (BadByte n)) (Ok us) h k = absurd (spelled_well text us n k h)
-finds_once text (Err (BadByte n)) (Err (BadByte m)) h k = ap (λ x. Err (BadByte x)) (one_bad_byte text n m h k)
-finds_once text (Err (BadByte n)) (Err (BadNumber m)) h k = absurd (one_fault text n m h k)
-finds_once text (Err (BadByte n)) (Err NoMemory) h k = absurd k
-finds_once text (Err (BadNumber n)) (Ok us) h k = absurd (numbered_well text us n k h)
-finds_once text (Err (BadNumber n)) (Err (BadByte m)) h k = absurd (one_fault text m n k h)
-finds_once text (Err (BadNumber n)) (Err (BadNumber m)) h k = ap (λ x. Err (BadNumber x)) (one_bad_number text n m h k)
-finds_once text (Err (BadNumber n)) (Err NoMemory) h k = absurd k
-finds_once text (Err NoMemory) b h k = absurd h
+pub lexing_is_deterministic : (text : List ℕ) (a b : Result (List Token) LexFault) → Finds text a → Finds text b → a ≡ b
+lexing_is_deterministic text (Ok ts) (Ok us) h k = ap (λ x. Ok x) (one_spelling text ts us h k)
+lexing_is_deterministic text (Ok ts) (Err (BadByte m)) h k = absurd (spelled_well text ts m h k)
+lexing_is_deterministic text (Ok ts) (Err (BadNumber m)) h k = absurd (numbered_well text ts m h k)
+lexing_is_deterministic text (Ok ts) (Err NoMemory) h k = absurd k
+lexing_is_deterministic text (Err (BadByte n)) (Ok us) h k = absurd (spelled_well text us n k h)
+lexing_is_deterministic text (Err (BadByte n)) (Err (BadByte m)) h k = ap (λ x. Err (BadByte x)) (one_bad_byte text n m h k)
+lexing_is_deterministic text (Err (BadByte n)) (Err (BadNumber m)) h k = absurd (one_fault text n m h k)
+lexing_is_deterministic text (Err (BadByte n)) (Err NoMemory) h k = absurd k
+lexing_is_deterministic text (Err (BadNumber n)) (Ok us) h k = absurd (numbered_well text us n k h)
+lexing_is_deterministic text (Err (BadNumber n)) (Err (BadByte m)) h k = absurd (one_fault text m n k h)
+lexing_is_deterministic text (Err (BadNumber n)) (Err (BadNumber m)) h k = ap (λ x. Err (BadNumber x)) (one_bad_number text n m h k)
+lexing_is_deterministic text (Err (BadNumber n)) (Err NoMemory) h k = absurd k
+lexing_is_deterministic text (Err NoMemory) b h k = absurd h

@@ -95,5 +95,5 @@ found_at text s (at_the_end is) =
 found_at text s (at_bad_byte bad) = (Err (BadByte s.end), (s.tokens, s.rest, s.spells, bad))
 found_at text s (at_bad_number bad) = (Err (BadNumber s.end), (s.tokens, s.rest, s.spells, bad))
 
-pub finds_always : (text : List ℕ) → (a : Result (List Token) LexFault) × Finds text a
-finds_always text = let s = scanned (length text) 0 text (omega arith) in found_at text s s.stop
+pub lexing_is_total : (text : List ℕ) → (a : Result (List Token) LexFault) × Finds text a
+lexing_is_total text = let s = scanned (length text) 0 text (omega arith) in found_at text s s.stop

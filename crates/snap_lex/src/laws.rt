@@ -3,11 +3,11 @@
 ghost use Rattle.snap_lex.specs.Laws.{FindsAlways, FindsOnce};
 
 /// A text spells one list of tokens at most, or has a bad byte or a bad number at one place, and no two of these.
-pub fn finds_once()
+pub fn lexing_is_deterministic()
     ensures { FindsOnce }
 {}
 
 /// A text that spells no tokens has a bad byte or a bad number.
-pub fn finds_always()
+pub fn lexing_is_total()
     ensures { FindsAlways }
 {}

@@ -3,7 +3,7 @@ use Rattle.std.proofs.Common.{◌≡◌, ℕ, ◌+◌, ◌<◌, ◌≤◌, List,
 use Rattle.std.specs.Prelude.{slice_get}
 use Rattle.std.proofs.lemmas.List.{get_or-append-add, get_or-map, length-append, length-map, map_more, take_all}
 use Rattle.std.proofs.lemmas.Option.{get_or_from_slice_get, slice_get-get_or, slice_get_within}
-use Rattle.snap_arena.proofs.Numbered.{slice_get-append}
+use Rattle.snap_diagrams.proofs.Numbered.{slice_get-append}
 use Rattle.snap_rows.specs.declared.tables.Row.{Row}
 
 module _ (f : Row → Row) (bodies : List Row) where

@@ -1,7 +1,7 @@
 -- How many next hops there are.
 use Rattle.std.proofs.Common.{◌≡◌, ℕ, zero, suc, ◌*◌, ◌<◌, ◌≤◌, ⊎_elim, length, Option, Some, None, refl, ap, subst, arith, length-append}
 use Rattle.std.proofs.lemmas.Bool.{cases_lt, eq-eqb, cond-true}
-use Rattle.snap_route.specs.Tables.{Table}
+use Rattle.snap_topology.specs.Tables.{Table}
 use Rattle.snap_make.specs.Pairs.{one_entry, at_switch, at_switches, hop_for}
 
 one_or_none : {X : Type 0} (w n : ℕ) (o : Option X) → length (one_entry w n o) ≤ 1

@@ -8,28 +8,28 @@ use Rattle.snap_core.specs.declared.program.Program.{Program}
 use Rattle.snap_core.specs.Laws.{PutsSmall}
 use Rattle.snap_core.specs.Programs as programs
 use Rattle.snap_dep.specs.Ranks.{Grouping, IsGrouping}
-use Rattle.snap_topo.specs.declared.topology.Topology.{Topology}
-use Rattle.snap_topo.specs.Form as topo
-use Rattle.snap_route.specs.Tables.{Table, AreRoutes}
-use Rattle.snap_place.specs.Answer.{GivesSwitches}
-use Rattle.snap_arena.specs.declared.node.Node.{Node}
-use Rattle.snap_arena.specs.Arena.{IsArena}
-use Rattle.snap_fdd.specs.declared.leaf.Leaf.{Leaf}
-use Rattle.snap_fdd.specs.Diagrams.{diagram}
+use Rattle.snap_topology.specs.declared.topology.Topology.{Topology}
+use Rattle.snap_topology.specs.Form as topo
+use Rattle.snap_topology.specs.Tables.{Table, AreRoutes}
+use Rattle.snap_placement.specs.Answer.{GivesSwitches}
+use Rattle.snap_diagrams.specs.declared.node.Node.{Node}
+use Rattle.snap_diagrams.specs.Arena.{IsArena}
+use Rattle.snap_diagrams.specs.declared.leaf.Leaf.{Leaf}
+use Rattle.snap_diagrams.specs.Diagrams.{diagram}
 use Rattle.snap_rows.specs.declared.tables.Row.{Row}
 use Rattle.snap_rows.specs.declared.tables.Row.TheVariants as row
 use Rattle.snap_rows.specs.declared.tables.RowAt.{RowAt}
 use Rattle.snap_rows.specs.declared.tables.Tables.{Tables}
 use Rattle.snap_rows.specs.Entries.{var_of}
-use Rattle.snap_gen.specs.Generated.{numbered_nodes}
-use Rattle.snap_demand.specs.declared.switches.Switches.{Switches}
-use Rattle.snap_demand.specs.Demands.{AreDemanded, IsSetting, has_pair}
-use Rattle.snap_gen.specs.Faithful.{Faithful}
-use Rattle.snap_demand.specs.OnDemand.{place_of, row_on, staged}
-use Rattle.snap_demand.proofs.Reframing.{wanted_with, closed_with}
-use Rattle.snap_demand.proofs.Turning.{ended}
+use Rattle.snap_faithful.specs.Generated.{numbered_nodes}
+use Rattle.snap_make.specs.declared.switches.Switches.{Switches}
+use Rattle.snap_make.specs.Demands.{AreDemanded, IsSetting, has_pair}
+use Rattle.snap_faithful.specs.Faithful.{Faithful}
+use Rattle.snap_faithful.specs.OnDemand.{place_of, row_on, staged}
+use Rattle.snap_faithful.proofs.Reframing.{wanted_with, closed_with}
+use Rattle.snap_make.proofs.Turning.{ended}
 use Rattle.snap_make.specs.Demanded.{AreNumberedRows, CanBeNumbered, body_on, demanded}
-use Rattle.snap_make.specs.Framed.{IsFrame}
+use Rattle.snap_make.specs.Outlined.{IsOutline}
 use Rattle.snap_make.specs.Fronts.{IsNumbered}
 use Rattle.snap_make.specs.Pairs.{at_switches, row_entry}
 use Rattle.snap_make.specs.Shares.{body_of}
@@ -66,8 +66,8 @@ demanded_is t marks nodes w i =
     (ap (option_map (body_on (place_of t) w)) (slice_get-map (staged (place_of t)) nodes i) ∙ staged_said (place_of t) w (slice_get nodes i))
 
 module _ (p : Program) (t : Topology) (places : List ℕ) (routes : Table) (g : Grouping) (ns : List (Node Leaf)) (root : ℕ)
-    (form : programs.IsInForm p) (small : PutsSmall p.body) (groups : IsGrouping p.body (length p.vars) g) (topology : topo.IsInForm t) (paths : AreRoutes t routes) (switches : GivesSwitches p t places)
-    (tidy : IsTidy p g ns root) (n : Tables) (frame : IsFrame 1 p t places routes g.ranks n) where
+    (form : programs.IsWellFormed p) (small : PutsSmall p.body) (groups : IsGrouping p.body (length p.arrays) g) (topology : topo.IsWellFormed t) (paths : AreRoutes t routes) (switches : GivesSwitches p t places)
+    (tidy : IsTidy p g ns root) (n : Tables) (outline : IsOutline 1 p t places routes g.ranks n) where
   ready : IsReady p t places routes g
   ready = given p t places routes g tidy.old tidy.old_root form small groups tidy.whole topology paths switches
 
@@ -75,10 +75,10 @@ module _ (p : Program) (t : Topology) (places : List ℕ) (routes : Table) (g : 
   whole = built p g tidy.old tidy.old_root tidy.whole groups.count (ranks_below p g form groups) (leaves_known tidy.old tidy.whole.arena tidy.known tidy.old_root tidy.whole.below)
 
   pub setting : IsSetting n routes
-  setting = demanding.setting p t places routes g n ready frame
+  setting = demanding.setting p t places routes g n ready outline
 
   pub can_be_numbered : CanBeNumbered n ns root
-  can_be_numbered arena ids number num = demanding.has_nodes p t places routes g n ready frame (diagram tidy.old tidy.old_root) ns root whole arena tidy.tidies ids number num
+  can_be_numbered arena ids number num = demanding.has_nodes p t places routes g n ready outline (diagram tidy.old tidy.old_root) ns root whole arena tidy.tidies ids number num
 
   module _ (rows : List RowAt) (arena : IsArena ns) (numbered : AreNumberedRows n ns root rows) where
     abbrev listed : List Row
@@ -114,7 +114,7 @@ module _ (p : Program) (t : Topology) (places : List ℕ) (routes : Table) (g : 
     pub demanded_made : Faithful p t places (record n { rows = rows })
     demanded_made =
         made_on_demand p t places routes g (diagram tidy.old tidy.old_root) ns root numbered.ids numbered.numbers (has_pair marks) (record n { rows = rows }) ready whole arena tidy.tidies numbered.numbering numbered.wide
-        (record { version = frame.version; fields = frame.fields; arrays = frame.arrays; switches = frame.switches; links = frame.links; ports = frame.ports; hops = frame.hops })
+        (record { version = outline.version; fields = outline.fields; arrays = outline.arrays; switches = outline.switches; links = outline.links; ports = outline.ports; hops = outline.hops })
         marked.low
         (λ w i m. wanted_with n rows nodes (marked.sound w i m))
         (closed_with n rows nodes (has_pair marks)

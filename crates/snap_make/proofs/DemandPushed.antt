@@ -5,9 +5,9 @@ use Rattle.snap_rows.specs.declared.tables.Row.{Row}
 use Rattle.snap_rows.specs.declared.tables.Row.TheVariants as row
 use Rattle.snap_rows.specs.declared.tables.Tables.{Tables}
 use Rattle.snap_rows.specs.Entries.{var_of}
-use Rattle.snap_demand.specs.declared.switches.Switches.{Switches}
-use Rattle.snap_demand.specs.Marks.{has_switch}
-use Rattle.snap_demand.specs.OnDemand.{place_of}
+use Rattle.snap_make.specs.declared.switches.Switches.{Switches}
+use Rattle.snap_make.specs.Marks.{has_switch}
+use Rattle.snap_faithful.specs.OnDemand.{place_of}
 use Rattle.snap_make.specs.Demanded.{body_on, demanded, gone, place_on, with_gone}
 use Rattle.snap_make.proofs.Behind.{own_body, body_behind}
 

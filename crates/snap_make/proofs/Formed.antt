@@ -9,16 +9,16 @@ use Rattle.snap_core.specs.declared.policy.Atom.{Atom}
 use Rattle.snap_core.specs.declared.policy.Atom.TheVariants.{Num, Comp}
 use Rattle.snap_core.specs.declared.policy.Update.{Update}
 use Rattle.snap_core.specs.Tests.{OutFits, PartFits, IsRisingOut}
-use Rattle.snap_fdd.specs.declared.leaf.Leaf.{Leaf}
-use Rattle.snap_fdd.specs.declared.leaf.Leaf.TheVariants.{Race, Go as Goes}
-use Rattle.snap_fdd.specs.declared.leaf.Go.{Go}
-use Rattle.snap_fdd.specs.Bounds.{Sizes, TestIn, UpdateIn, LeafIn, IsIn}
-use Rattle.snap_fdd.specs.Diagrams.{Diagram, Only, Asks}
+use Rattle.snap_diagrams.specs.declared.leaf.Leaf.{Leaf}
+use Rattle.snap_diagrams.specs.declared.leaf.Leaf.TheVariants.{Race, Go as Goes}
+use Rattle.snap_diagrams.specs.declared.leaf.Go.{Go}
+use Rattle.snap_diagrams.specs.Bounds.{Sizes, TestIn, UpdateIn, LeafIn, IsIn}
+use Rattle.snap_diagrams.specs.Diagrams.{Diagram, Only, Asks}
 use Rattle.snap_rows.specs.Entries.{Parts}
 use Rattle.snap_rows.specs.Form.{parts_cmp}
-use Rattle.snap_gen.specs.Leaves.{is_still, is_itself, changes, of_rank, by_ranks, IsTidy}
-use Rattle.snap_gen.specs.Tidied.{Tidies, leaf, test, merged, IsLeafOf, HasLeavesOf}
-use Rattle.snap_gen.proofs.Changing.{changes_rise}
+use Rattle.snap_faithful.specs.Leaves.{is_still, is_itself, changes, of_rank, by_ranks, IsTidy}
+use Rattle.snap_faithful.specs.Tidied.{Tidies, leaf, test, merged, IsLeafOf, HasLeavesOf}
+use Rattle.snap_faithful.proofs.Changing.{changes_rise}
 
 pub record PartsFormed (c : ℕ) (o : Parts) : Type 0 where
   pub fits : OutFits c o
@@ -140,7 +140,7 @@ formed s ranks n (merged a b) inside leaves = formed s ranks n a inside.1 leaves
 leaf_in : (s : Sizes) (ranks : List ℕ) (l : Leaf) → LeafFormed s ranks l → LeafIn s l
 leaf_in s ranks Race h = tt
 leaf_in s ranks (Goes g) h =
-    ((λ i d l. (h.outs i d l).fits), h.ups, subst (λ x. x < 2 ^ s.vars) (sym h.reads) (pow_pos s.vars), subst (λ x. x < 2 ^ s.vars) (sym h.writes) (pow_pos s.vars))
+    ((λ i d l. (h.outs i d l).fits), h.ups, subst (λ x. x < 2 ^ s.arrays) (sym h.reads) (pow_pos s.arrays), subst (λ x. x < 2 ^ s.arrays) (sym h.writes) (pow_pos s.arrays))
 
 pub formed_in : (s : Sizes) (ranks : List ℕ) (d : Diagram) → IsFormed s ranks d → IsIn s d
 formed_in s ranks (Only l) h = leaf_in s ranks l h

@@ -3,7 +3,7 @@ use Rattle.std.proofs.Common.{◌≡◌, ◌≢◌, ℕ, suc, Bool, true, false,
 use Rattle.std.specs.Prelude.{slice_get, nat_eq, unwrap_or, ◌&&◌}
 use Rattle.std.proofs.lemmas.Bool.{eqb-true, eqb-false, and_parts}
 use Rattle.std.proofs.lemmas.Option.{none-some, same_Some}
-use Rattle.snap_route.specs.Tables.{Table, next_of}
+use Rattle.snap_topology.specs.Tables.{Table, next_of}
 use Rattle.snap_rows.specs.declared.tables.Hop.{Hop}
 use Rattle.snap_rows.specs.Entries.{hop_in}
 use Rattle.snap_make.specs.Pairs.{hop_entry, hop_for}

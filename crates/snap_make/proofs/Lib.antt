@@ -1,3 +1,10 @@
+pub mod MarkWay
+pub mod Words
+pub mod Walking
+pub mod Settling
+pub mod Turning
+pub mod Runs
+pub mod Nearer
 pub mod Behind
 pub mod Counts
 pub mod Demanding
@@ -5,7 +12,7 @@ pub mod DemandMaking
 pub mod DemandPushed
 pub mod Entries
 pub mod Formed
-pub mod Framing
+pub mod Outlining
 pub mod Given
 pub mod Hopped
 pub mod Laid

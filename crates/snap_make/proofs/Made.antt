@@ -8,35 +8,35 @@ use Rattle.std.proofs.lemmas.List.{length-map}
 use Rattle.snap_core.specs.declared.policy.Update.{Update}
 use Rattle.snap_core.specs.declared.program.Program.{Program}
 use Rattle.snap_dep.specs.Ranks.{Grouping}
-use Rattle.snap_topo.specs.declared.topology.Topology.{Topology}
-use Rattle.snap_route.specs.Tables.{Table}
-use Rattle.snap_arena.specs.declared.node.Node.{Node}
-use Rattle.snap_arena.specs.Arena.{IsArena}
-use Rattle.snap_fdd.specs.declared.leaf.Leaf.{Leaf}
-use Rattle.snap_fdd.specs.Diagrams.{Diagram, diagram}
+use Rattle.snap_topology.specs.declared.topology.Topology.{Topology}
+use Rattle.snap_topology.specs.Tables.{Table}
+use Rattle.snap_diagrams.specs.declared.node.Node.{Node}
+use Rattle.snap_diagrams.specs.Arena.{IsArena}
+use Rattle.snap_diagrams.specs.declared.leaf.Leaf.{Leaf}
+use Rattle.snap_diagrams.specs.Diagrams.{Diagram, diagram}
 use Rattle.snap_rows.specs.declared.tables.ArrayAt.{ArrayAt}
 use Rattle.snap_rows.specs.declared.tables.RowAt.{RowAt}
 use Rattle.snap_rows.specs.declared.tables.Tables.{Tables}
 use Rattle.snap_rows.specs.declared.tables.Row.{Row}
 use Rattle.snap_rows.specs.declared.tables.Row.TheVariants.{Field, State, Go, Leaf as StageLeaf, Stop, Last}
 use Rattle.snap_rows.specs.Entries.{rank_of}
-use Rattle.snap_rows.specs.Form.{IsInForm, IsRowInForm, switch_count}
+use Rattle.snap_rows.specs.Form.{IsWellFormed, IsRowWellFormed, switch_count}
 use Rattle.snap_rows.specs.Handles.{is_field}
 use Rattle.snap_rows.specs.Rules.{IsFieldRow}
-use Rattle.snap_gen.specs.Planned.{row_for, IsFront, ArePlanned}
-use Rattle.snap_gen.specs.Tidied.{Tidies}
-use Rattle.snap_gen.specs.Shown.{IsNumbering}
-use Rattle.snap_gen.specs.Generated.{IsBareDiagram, IsWritten, numbered_nodes}
-use Rattle.snap_gen.specs.Faithful.{Faithful}
-use Rattle.snap_gen.proofs.Generating.{written}
-use Rattle.snap_make.specs.Framed.{IsFrame, told}
+use Rattle.snap_faithful.specs.Planned.{row_for, IsFront, ArePlanned}
+use Rattle.snap_faithful.specs.Tidied.{Tidies}
+use Rattle.snap_faithful.specs.Shown.{IsNumbering}
+use Rattle.snap_faithful.specs.Generated.{IsBareDiagram, IsWritten, numbered_nodes}
+use Rattle.snap_faithful.specs.Faithful.{Faithful}
+use Rattle.snap_faithful.proofs.Generating.{written}
+use Rattle.snap_make.specs.Outlined.{IsOutline, written_rank}
 use Rattle.snap_make.specs.Fronts.{AreMarked}
 use Rattle.snap_make.specs.Pairs.{row_entry, at_switches}
 use Rattle.snap_make.specs.Sites.{planned}
-use Rattle.snap_make.proofs.Framing.{IsFramed, framed}
+use Rattle.snap_make.proofs.Outlining.{IsFramed, framed}
 use Rattle.snap_make.proofs.Given.{IsReady}
 use Rattle.snap_make.proofs.Laid.{once, row_at_is, rows_form, rows_rise}
-use Rattle.snap_make.proofs.Noded.{IsNodeInForm, bare, node_low, node_in_form}
+use Rattle.snap_make.proofs.Noded.{IsNodeWellFormed, bare, node_low, node_well_formed}
 use Rattle.snap_make.proofs.Standing.{no_field, Stands, stands, front_same, port_low, holder_low}
 use Rattle.snap_make.proofs.Whole.{IsBuilt}
 
@@ -58,19 +58,19 @@ rise_mapped f h same (x ∷ xs) r = λ i j d le l. (
     let ej = mapped_at f h same (x ∷ xs) j x d lj in
     omega (arith, ei, ej, b))
 
-told_two : (rs : List ℕ) → map (told 2) rs ≡ rs
+told_two : (rs : List ℕ) → map (written_rank 2) rs ≡ rs
 told_two [] = refl
 told_two (r ∷ rs) = ap (λ xs. r ∷ xs) (told_two rs)
 
 module _ (p : Program) (t : Topology) (places : List ℕ) (routes : Table) (g : Grouping) (d : Diagram) (ns : List (Node Leaf)) (root : ℕ) (ids numbers : List ℕ) (marks : List Bool) (n : Tables)
     (ready : IsReady p t places routes g) (built : IsBuilt p g d) (arena : IsArena ns) (tidies : Tidies g.ranks (length g.order) d (diagram ns root)) (num : IsNumbering ns root ids (slice_index numbers))
-    (marked : AreMarked (numbered_nodes ns ids (slice_index numbers)) (length ids) (length ids) marks) (frame : IsFrame 2 p t places routes g.ranks n)
+    (marked : AreMarked (numbered_nodes ns ids (slice_index numbers)) (length ids) (length ids) marks) (outline : IsOutline 2 p t places routes g.ranks n)
     (rows : map row_entry n.rows ≡ at_switches (planned n ns ids numbers marks) (length n.switches) (length ids)) where
   abbrev nodes : ℕ → Option Row
   nodes = numbered_nodes ns ids (slice_index numbers)
 
   facts : IsFramed 2 p t places routes g n
-  facts = framed 2 p t places routes g n (inr refl) ready frame
+  facts = framed 2 p t places routes g n (inr refl) ready outline
 
   bare_diagram : IsBareDiagram p g.ranks ns root
   bare_diagram = bare p g d ns root built arena tidies
@@ -84,16 +84,16 @@ module _ (p : Program) (t : Topology) (places : List ℕ) (routes : Table) (g : 
       ∙ unwrap_or-slice_get (map (λ (a : ArrayAt). a.rank) n.arrays) v 0
       ∙ ap (λ l. slice_index l v) array_ranks)
 
-  in_two : (b : Row) → IsNodeInForm n g.ranks b → IsRowInForm n b
+  in_two : (b : Row) → IsNodeWellFormed n g.ranks b → IsRowWellFormed n b
   in_two (Field test y z) h = h
   in_two (State test y z) h = h
   in_two (Go x) h = h
   in_two (StageLeaf ss os) h = h
   in_two Stop h = h
-  in_two (Last us os) h = (frame.version, h.0, rise_mapped (λ (u : Update). slice_index g.ranks u.var) (λ (u : Update). rank_of n u.var) (λ u. rank_is u.var) us h.1, h.2)
+  in_two (Last us os) h = (outline.version, h.0, rise_mapped (λ (u : Update). slice_index g.ranks u.var) (λ (u : Update). rank_of n u.var) (λ u. rank_is u.var) us h.1, h.2)
 
-  row_form : (i : ℕ) (b : Row) → nodes i ≡ Some b → IsRowInForm n b
-  row_form i b e = in_two b (node_in_form p g d ns root built arena tidies ids numbers num n facts.fields facts.as_many i b e)
+  row_form : (i : ℕ) (b : Row) → nodes i ≡ Some b → IsRowWellFormed n b
+  row_form i b e = in_two b (node_well_formed p g d ns root built arena tidies ids numbers num n facts.fields facts.as_many i b e)
 
   -- ---- rows
   abbrev plan : ℕ → ℕ → Option Row
@@ -119,13 +119,13 @@ module _ (p : Program) (t : Topology) (places : List ℕ) (routes : Table) (g : 
       let r = row_is w i b e in
       (⊎_elim (λ h. port_low n.ports (switch_count n) w facts.ports_low h) (λ h. holder_low n.arrays (switch_count n) w h.0 facts.arrays_low h.1) r.stands.has, low i r.body r.node)
 
-  plan_form : (w i : ℕ) (b : Row) → plan w i ≡ Some b → IsRowInForm n b
+  plan_form : (w i : ℕ) (b : Row) → plan w i ≡ Some b → IsRowWellFormed n b
   plan_form w i b e =
       let r = row_is w i b e in
-      ⊎_elim (λ same. subst (IsRowInForm n) (sym same) (row_form i r.body r.node)) (λ stop. subst (IsRowInForm n) (sym stop) frame.version) r.stands.body
+      ⊎_elim (λ same. subst (IsRowWellFormed n) (sym same) (row_form i r.body r.node)) (λ stop. subst (IsRowWellFormed n) (sym stop) outline.version) r.stands.body
 
-  in_form : IsInForm n
-  in_form = facts.form (rows_form n plan (length ids) rows plan_form) (rows_rise n plan (length ids) rows)
+  well_formed : IsWellFormed n
+  well_formed = facts.form (rows_form n plan (length ids) rows plan_form) (rows_rise n plan (length ids) rows)
 
   -- ---- fronts
   is_front : (i : ℕ) → IsFront nodes i → fronts nodes marks i ≡ true
@@ -170,15 +170,15 @@ module _ (p : Program) (t : Topology) (places : List ℕ) (routes : Table) (g : 
 
   is_written : IsWritten p t places routes g.ranks nodes (fronts nodes marks) n
   is_written = record {
-    form = in_form;
-    version = frame.version;
-    fields = frame.fields;
+    form = well_formed;
+    version = outline.version;
+    fields = outline.fields;
     names = facts.names;
     owners = facts.owners;
     array_ranks = array_ranks;
-    switches = frame.switches;
-    links = frame.links;
-    ports = frame.ports;
+    switches = outline.switches;
+    links = outline.links;
+    ports = outline.ports;
     hops = λ a b la lb apart. facts.next_is a b (subst (λ s. a < s) (sym facts.switches) la) (subst (λ s. b < s) (sym facts.switches) lb) apart;
     hop_once = facts.hop_once;
     rows = are_planned;
@@ -192,7 +192,7 @@ module _ (p : Program) (t : Topology) (places : List ℕ) (routes : Table) (g : 
 -- ---- tables with other rows
 pub made_with : (p : Program) (t : Topology) (places : List ℕ) (routes : Table) (g : Grouping) (d : Diagram) (ns : List (Node Leaf)) (root : ℕ) (ids numbers : List ℕ) (marks : List Bool) (n : Tables) (r : List RowAt)
     → IsReady p t places routes g → IsBuilt p g d → IsArena ns → Tidies g.ranks (length g.order) d (diagram ns root) → IsNumbering ns root ids (slice_index numbers)
-    → AreMarked (numbered_nodes ns ids (slice_index numbers)) (length ids) (length ids) marks → IsFrame 2 p t places routes g.ranks n
+    → AreMarked (numbered_nodes ns ids (slice_index numbers)) (length ids) (length ids) marks → IsOutline 2 p t places routes g.ranks n
     → map row_entry r ≡ at_switches (planned n ns ids numbers marks) (length n.switches) (length ids) → Faithful p t places (record n { rows = r })
 made_with p t places routes g d ns root ids numbers marks n r ready built arena tidies num marked f rows =
     made p t places routes g d ns root ids numbers marks (record n { rows = r }) ready built arena tidies num marked

@@ -6,15 +6,15 @@ use Rattle.std.proofs.lemmas.Option.{same_Some, slice_get_within}
 use Rattle.std.proofs.lemmas.List.{length-set, get_or-set_same, get_or-set_other}
 use Rattle.snap_core.specs.declared.policy.Test.{Test}
 use Rattle.snap_core.specs.declared.policy.Test.TheVariants.{Value, Equal, State as StateTest}
-use Rattle.snap_arena.specs.declared.node.Node.{Node}
-use Rattle.snap_arena.specs.declared.node.Node.TheVariants as node
-use Rattle.snap_fdd.specs.declared.leaf.Leaf.{Leaf}
-use Rattle.snap_fdd.specs.declared.leaf.Leaf.TheVariants.{Race, Go as Goes}
+use Rattle.snap_diagrams.specs.declared.node.Node.{Node}
+use Rattle.snap_diagrams.specs.declared.node.Node.TheVariants as node
+use Rattle.snap_diagrams.specs.declared.leaf.Leaf.{Leaf}
+use Rattle.snap_diagrams.specs.declared.leaf.Leaf.TheVariants.{Race, Go as Goes}
 use Rattle.snap_rows.specs.declared.tables.Row.{Row}
 use Rattle.snap_rows.specs.declared.tables.Row.TheVariants.{Field, State, Last}
 use Rattle.snap_rows.specs.Handles.{is_field}
-use Rattle.snap_gen.specs.Shown.{row_of}
-use Rattle.snap_gen.specs.Generated.{numbered_nodes}
+use Rattle.snap_faithful.specs.Shown.{row_of}
+use Rattle.snap_faithful.specs.Generated.{numbered_nodes}
 use Rattle.snap_make.specs.Fronts.{IsNumbered, AreWithin, with_fields, IsBehind, AreMarked}
 
 abbrev yes_in : Row → ℕ

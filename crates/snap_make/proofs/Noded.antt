@@ -14,32 +14,32 @@ use Rattle.snap_core.specs.Fields.{count}
 use Rattle.snap_core.specs.Fits.{IndexFits, OpFits}
 use Rattle.snap_core.specs.Tests.{OutFits, TermFits}
 use Rattle.snap_dep.specs.Ranks.{Grouping}
-use Rattle.snap_arena.specs.declared.node.Node.{Node}
-use Rattle.snap_arena.specs.declared.node.Node.TheVariants as node
-use Rattle.snap_arena.specs.Arena.{IsArena}
-use Rattle.snap_fdd.specs.declared.leaf.Leaf.{Leaf}
-use Rattle.snap_fdd.specs.declared.leaf.Leaf.TheVariants.{Race, Go as Goes}
-use Rattle.snap_fdd.specs.Bounds.{UpdateIn}
-use Rattle.snap_fdd.specs.Diagrams.{Diagram, diagram, IsNodeOf}
+use Rattle.snap_diagrams.specs.declared.node.Node.{Node}
+use Rattle.snap_diagrams.specs.declared.node.Node.TheVariants as node
+use Rattle.snap_diagrams.specs.Arena.{IsArena}
+use Rattle.snap_diagrams.specs.declared.leaf.Leaf.{Leaf}
+use Rattle.snap_diagrams.specs.declared.leaf.Leaf.TheVariants.{Race, Go as Goes}
+use Rattle.snap_diagrams.specs.Bounds.{UpdateIn}
+use Rattle.snap_diagrams.specs.Diagrams.{Diagram, diagram, IsNodeOf}
 use Rattle.snap_build.specs.Whole.{sizes_of}
 use Rattle.snap_rows.specs.declared.tables.Tables.{Tables}
 use Rattle.snap_rows.specs.declared.tables.Row.{Row}
 use Rattle.snap_rows.specs.declared.tables.Row.TheVariants as row
 use Rattle.snap_rows.specs.Entries.{Parts}
-use Rattle.snap_rows.specs.Form.{IsRowInForm, IsOpInForm, IsUpdateInForm, IsPartsInForm, AreOutsInForm, comps, array_count}
-use Rattle.snap_gen.specs.Leaves.{is_still}
-use Rattle.snap_gen.specs.Tidied.{Tidies}
-use Rattle.snap_gen.specs.Shown.{row_of, IsNumbering, Leads, here, yes_way, no_way}
-use Rattle.snap_gen.specs.Generated.{IsBareDiagram, numbered_nodes}
-use Rattle.snap_gen.proofs.Tidying.{tidying_keeps}
-use Rattle.snap_gen.proofs.Generating.{of_node, shape}
+use Rattle.snap_rows.specs.Form.{IsRowWellFormed, IsOpWellFormed, IsUpdateWellFormed, IsPartsWellFormed, AreOutsWellFormed, comps, array_count}
+use Rattle.snap_faithful.specs.Leaves.{is_still}
+use Rattle.snap_faithful.specs.Tidied.{Tidies}
+use Rattle.snap_faithful.specs.Shown.{row_of, IsNumbering, Leads, here, yes_way, no_way}
+use Rattle.snap_faithful.specs.Generated.{IsBareDiagram, numbered_nodes}
+use Rattle.snap_faithful.proofs.Tidying.{tidying_keeps}
+use Rattle.snap_faithful.proofs.Generating.{of_node, shape}
 use Rattle.snap_make.proofs.Formed.{PartsFormed, GoFormed, IsFormed, formed, formed_in}
 use Rattle.snap_make.proofs.Whole.{IsBuilt}
 
 -- a node is in form for either version, and the ranks of a leaf's updates never fall
-abbrev pub IsNodeInForm : Tables → List ℕ → Row → Type 0
-IsNodeInForm n ranks (row.Last us os) = All (IsUpdateInForm n) us × IsNonDecreasingBy (λ (u : Update). slice_index ranks u.var) us × AreOutsInForm n os
-IsNodeInForm n ranks b = IsRowInForm n b
+abbrev pub IsNodeWellFormed : Tables → List ℕ → Row → Type 0
+IsNodeWellFormed n ranks (row.Last us os) = All (IsUpdateWellFormed n) us × IsNonDecreasingBy (λ (u : Update). slice_index ranks u.var) us × AreOutsWellFormed n os
+IsNodeWellFormed n ranks b = IsRowWellFormed n b
 
 module _ (p : Program) (g : Grouping) (d : Diagram) (ns : List (Node Leaf)) (root : ℕ) (built : IsBuilt p g d) (arena : IsArena ns) (tidies : Tidies g.ranks (length g.order) d (diagram ns root)) where
   root_formed : IsFormed (sizes_of p) g.ranks (diagram ns root)
@@ -68,25 +68,25 @@ module _ (p : Program) (g : Grouping) (d : Diagram) (ns : List (Node Leaf)) (roo
     pub node_low : (i : ℕ) (b : Row) → numbered_nodes ns ids (slice_index numbers) i ≡ Some b → i < length ids
     node_low i b e = let o = of_node p g.ranks ns root ids (slice_index numbers) bare num i b e in slice_get_within ids i o.id o.at
 
-    module _ (n : Tables) (fields : comps n ≡ count p.fields) (as_many : array_count n ≡ length p.vars) where
-      op_form : (op : Op) → is_still op ≡ false → IsOpInForm op
+    module _ (n : Tables) (fields : comps n ≡ count p.fields) (as_many : array_count n ≡ length p.arrays) where
+      op_form : (op : Op) → is_still op ≡ false → IsOpWellFormed op
       op_form (Put a) e = tt
       op_form (Add x) e = by x e
         where
           by : (x : ℕ) → nat_eq x 0 ≡ false → 1 ≤ x
           by x e = ⊎_elim (λ z. absurd (false≢true (sym e ∙ eq-eqb x 0 (omega (arith, z))))) (λ l. l) (cases_lt x 1)
 
-      update_form : (u : Update) → UpdateIn (sizes_of p) u → is_still u.op ≡ false → IsUpdateInForm n u
+      update_form : (u : Update) → UpdateIn (sizes_of p) u → is_still u.op ≡ false → IsUpdateWellFormed n u
       update_form u h moves = record {
         fits = record { var = subst (λ s. u.var < s) (sym as_many) h.var; index = subst (λ c. IndexFits c u.index) (sym fields) h.index.atoms; op = subst (λ c. OpFits c u.op) (sym fields) h.op };
         index = (h.index.some, h.index.few);
         op = op_form u.op moves;
       }
 
-      parts_form : (o : Parts) → PartsFormed (count p.fields) o → IsPartsInForm n o
+      parts_form : (o : Parts) → PartsFormed (count p.fields) o → IsPartsWellFormed n o
       parts_form o h = record { fits = subst (λ c. OutFits c o) (sym fields) h.fits; rising = h.rising; changes = h.changes }
 
-      node_form : (x : ℕ) (b : Node Leaf) → slice_get ns x ≡ Some b → IsFormed (sizes_of p) g.ranks (diagram ns x) → IsNodeInForm n g.ranks (row_of (slice_index numbers) b)
+      node_form : (x : ℕ) (b : Node Leaf) → slice_get ns x ≡ Some b → IsFormed (sizes_of p) g.ranks (diagram ns x) → IsNodeWellFormed n g.ranks (row_of (slice_index numbers) b)
       node_form x (node.Leaf Race) e h = absurd (subst (IsFormed (sizes_of p) g.ranks) (shape_of x (node.Leaf Race) e) h)
       node_form x (node.Leaf (Goes l)) e h =
           let f : GoFormed (sizes_of p) g.ranks l = subst (IsFormed (sizes_of p) g.ranks) (shape_of x (node.Leaf (Goes l)) e) h in (
@@ -105,7 +105,7 @@ module _ (p : Program) (g : Grouping) (d : Diagram) (ns : List (Node Leaf)) (roo
           ((subst (λ c. IndexFits c ix) (sym fields) f.0.1.atoms, subst (λ c. TermFits c u) (sym fields) f.0.2), (subst (λ s. v < s) (sym as_many) f.0.0, (f.0.1.some, f.0.1.few)))
 
       -- the node of each number is in form
-      pub node_in_form : (i : ℕ) (b : Row) → numbered_nodes ns ids (slice_index numbers) i ≡ Some b → IsNodeInForm n g.ranks b
-      node_in_form i b e =
+      pub node_well_formed : (i : ℕ) (b : Row) → numbered_nodes ns ids (slice_index numbers) i ≡ Some b → IsNodeWellFormed n g.ranks b
+      node_well_formed i b e =
           let o = of_node p g.ranks ns root ids (slice_index numbers) bare num i b e in
-          subst (IsNodeInForm n g.ranks) (sym o.row) (node_form o.id o.node o.is (below_formed (num.reached i o.id o.at)))
+          subst (IsNodeWellFormed n g.ranks) (sym o.row) (node_form o.id o.node o.is (below_formed (num.reached i o.id o.at)))

@@ -9,7 +9,7 @@ use Rattle.snap_rows.specs.declared.tables.Row.{Row}
 use Rattle.snap_rows.specs.declared.tables.Row.TheVariants.{Field, State, Go, Leaf as StageLeaf, Stop, Last}
 use Rattle.snap_rows.specs.declared.tables.Tables.{Tables}
 use Rattle.snap_rows.specs.Entries.{rank_of, ranks, var_of}
-use Rattle.snap_gen.specs.Planned.{has_port, stop_at, row_for}
+use Rattle.snap_faithful.specs.Planned.{has_port, stop_at, row_for}
 use Rattle.snap_make.specs.declared.sites.Site.{Site}
 use Rattle.snap_make.specs.Pairs.{Entry, one_entry, at_switch, at_switches}
 use Rattle.snap_make.specs.Sites.{IsSite, is_within, is_visited, has_leaves}

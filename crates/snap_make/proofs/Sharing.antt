@@ -5,16 +5,16 @@ use Rattle.std.specs.List.{range_with_len}
 use Rattle.std.proofs.lemmas.Bool.{cases_lt}
 use Rattle.std.proofs.lemmas.List.FromFn.{get_or-map-range_with_len, length-map-range_with_len}
 use Rattle.std.proofs.lemmas.Option.{slice_get-get_or, slice_get_past}
-use Rattle.snap_arena.specs.declared.node.Node.{Node}
-use Rattle.snap_fdd.specs.declared.leaf.Leaf.{Leaf}
+use Rattle.snap_diagrams.specs.declared.node.Node.{Node}
+use Rattle.snap_diagrams.specs.declared.leaf.Leaf.{Leaf}
 use Rattle.snap_rows.specs.declared.tables.Row.{Row}
 use Rattle.snap_rows.specs.declared.tables.Row.TheVariants as row
 use Rattle.snap_rows.specs.declared.tables.RowAt.{RowAt}
 use Rattle.snap_rows.specs.declared.tables.Tables.{Tables}
 use Rattle.snap_rows.proofs.Own.{past}
-use Rattle.snap_gen.specs.Generated.{numbered_nodes}
-use Rattle.snap_gen.specs.Planned.{row_for}
-use Rattle.snap_gen.specs.Shown.{row_of}
+use Rattle.snap_faithful.specs.Generated.{numbered_nodes}
+use Rattle.snap_faithful.specs.Planned.{row_for}
+use Rattle.snap_faithful.specs.Shown.{row_of}
 use Rattle.snap_make.specs.Fronts.{IsNumbered}
 use Rattle.snap_make.specs.Pairs.{at_switches, row_entry}
 use Rattle.snap_make.specs.Shares.{body_of, shown}

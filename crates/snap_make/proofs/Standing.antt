@@ -11,7 +11,7 @@ use Rattle.snap_rows.specs.declared.tables.Row.{Row}
 use Rattle.snap_rows.specs.declared.tables.Row.TheVariants.{Field, State, Go, Leaf as StageLeaf, Stop, Last}
 use Rattle.snap_rows.specs.Entries.{rank_of, ranks, var_of}
 use Rattle.snap_rows.specs.Handles.{is_field}
-use Rattle.snap_gen.specs.Planned.{has_port, has_ports, holds, stop_at, row_for}
+use Rattle.snap_faithful.specs.Planned.{has_port, has_ports, holds, stop_at, row_for}
 
 -- a node, and no field row
 abbrev pub no_field : Option Row → Bool

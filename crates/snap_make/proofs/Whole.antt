@@ -10,23 +10,23 @@ use Rattle.snap_core.specs.Inputs.{IsInput}
 use Rattle.snap_core.specs.Meaning.{Meaning}
 use Rattle.snap_dep.specs.Locality.{NeverRaces}
 use Rattle.snap_dep.specs.Ranks.{Grouping}
-use Rattle.snap_arena.specs.declared.node.Node.{Node}
-use Rattle.snap_arena.specs.declared.node.Node.TheVariants as node
-use Rattle.snap_arena.specs.Arena.{IsArena}
-use Rattle.snap_fdd.specs.declared.leaf.Leaf.{Leaf}
-use Rattle.snap_fdd.specs.declared.leaf.Leaf.TheVariants.{Race, Go as Goes}
-use Rattle.snap_fdd.specs.Bounds.{Sizes, IsIn}
-use Rattle.snap_fdd.specs.Diagrams.{Diagram, Only, Asks, diagram, walk, IsNodeOf}
-use Rattle.snap_fdd.specs.Leaves.{answer_of, outcome_of}
-use Rattle.snap_fdd.specs.Order.{IsOrdered}
-use Rattle.snap_fdd.specs.Pruned.{IsLive}
-use Rattle.snap_fdd.proofs.Shared as shared
+use Rattle.snap_diagrams.specs.declared.node.Node.{Node}
+use Rattle.snap_diagrams.specs.declared.node.Node.TheVariants as node
+use Rattle.snap_diagrams.specs.Arena.{IsArena}
+use Rattle.snap_diagrams.specs.declared.leaf.Leaf.{Leaf}
+use Rattle.snap_diagrams.specs.declared.leaf.Leaf.TheVariants.{Race, Go as Goes}
+use Rattle.snap_diagrams.specs.Bounds.{Sizes, IsIn}
+use Rattle.snap_diagrams.specs.Diagrams.{Diagram, Only, Asks, diagram, walk, IsNodeOf}
+use Rattle.snap_diagrams.specs.Leaves.{answer_of, outcome_of}
+use Rattle.snap_diagrams.specs.Order.{IsOrdered}
+use Rattle.snap_diagrams.specs.Pruned.{IsLive}
+use Rattle.snap_diagrams.proofs.Shared as shared
 use Rattle.snap_build.specs.Races.{IsGoing, HasNoRace}
 use Rattle.snap_build.specs.Whole.{IsWhole, sizes_of}
 use Rattle.snap_build.proofs.Racing.{going}
 use Rattle.snap_rows.proofs.Own.{past}
-use Rattle.snap_gen.specs.Shown.{IsOutcomeOf, LeafGives}
-use Rattle.snap_gen.specs.Tidied.{HasLeavesOf}
+use Rattle.snap_faithful.specs.Shown.{IsOutcomeOf, LeafGives}
+use Rattle.snap_faithful.specs.Tidied.{HasLeavesOf}
 use Rattle.snap_make.specs.Known.{LeafKnown, IsKnown}
 
 -- ---- leaves are known
@@ -63,7 +63,7 @@ gives Race m k o e = absurd (none-some o e)
 gives (Goes g) m k o e = let same = same_Some _ o e in (sym (ap (λ (x : Meaning). x.packets) same), λ q. sym (ap (λ (x : Meaning). x.arrays q) same))
 
 -- ---- leaves of groups
-leaves_of : (s : Sizes) (ranks : List ℕ) (n : ℕ) → length ranks ≡ s.vars → All (λ r. r < n) ranks → (d : Diagram) → IsIn s d → LeavesKnown d → HasNoRace d → HasLeavesOf ranks n d
+leaves_of : (s : Sizes) (ranks : List ℕ) (n : ℕ) → length ranks ≡ s.arrays → All (λ r. r < n) ranks → (d : Diagram) → IsIn s d → LeavesKnown d → HasNoRace d → HasLeavesOf ranks n d
 leaves_of s ranks n many below (Only Race) inside known none = none
 leaves_of s ranks n many below (Only (Goes g)) inside known none =
     ((λ i d l. (below _ 0 (let v = (inside.1 i d l).var in omega (arith, v, many)), known.0 i d l)), known.1)
@@ -75,19 +75,19 @@ pub record IsBuilt (p : Program) (g : Grouping) (d : Diagram) : Type 0 where
   pub ordered : IsOrdered g.ranks d
   pub bounds : IsIn (sizes_of p) d
   pub outcome : IsOutcomeOf p d
-  pub live : IsLive (IsInput (count p.fields) (length p.vars)) d
+  pub live : IsLive (IsInput (count p.fields) (length p.arrays)) d
   pub leaves : HasLeavesOf g.ranks (length g.order) d
 
 module _ (p : Program) (g : Grouping) (ns : List (Node Leaf)) (root : ℕ) (whole : IsWhole p g ns root) where
   pub never_races : NeverRaces p.body (count p.fields)
   never_races m k store packet none =
-      some_outcome (walk (diagram ns root) m k) m k (going (diagram ns root) whole.calm m k) (whole.outcome m k store packet ∙ none)
+      some_outcome (walk (diagram ns root) m k) m k (going (diagram ns root) whole.race_free m k) (whole.outcome m k store packet ∙ none)
 
-  pub built : length g.ranks ≡ length p.vars → All (λ r. r < length g.order) g.ranks → LeavesKnown (diagram ns root) → IsBuilt p g (diagram ns root)
+  pub built : length g.ranks ≡ length p.arrays → All (λ r. r < length g.order) g.ranks → LeavesKnown (diagram ns root) → IsBuilt p g (diagram ns root)
   built many below known = record {
     ordered = whole.ordered;
     bounds = whole.bounds;
     outcome = λ m k o store packet e. gives (walk (diagram ns root) m k) m k o (whole.outcome m k store packet ∙ e);
     live = whole.live;
-    leaves = leaves_of (sizes_of p) g.ranks (length g.order) many below (diagram ns root) whole.bounds known whole.calm;
+    leaves = leaves_of (sizes_of p) g.ranks (length g.order) many below (diagram ns root) whole.bounds known whole.race_free;
   }

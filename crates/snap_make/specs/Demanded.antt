@@ -1,19 +1,19 @@
 -- The rows of switches in tables on demand.
 use Rattle.std.specs.Prelude.{◌≡◌, ◌==◌, ◌++◌, ℕ, Option, None, List, length, map, option_map, slice_get, slice_index, if◌then◌else◌}
 use Rattle.std.specs.List.{range_with_len}
-use Rattle.snap_arena.specs.declared.node.Node.{Node}
-use Rattle.snap_arena.specs.Arena.{IsArena}
-use Rattle.snap_fdd.specs.declared.leaf.Leaf.{Leaf}
+use Rattle.snap_diagrams.specs.declared.node.Node.{Node}
+use Rattle.snap_diagrams.specs.Arena.{IsArena}
+use Rattle.snap_diagrams.specs.declared.leaf.Leaf.{Leaf}
 use Rattle.snap_rows.specs.declared.tables.Row.{Row}
 use Rattle.snap_rows.specs.declared.tables.Row.TheVariants.{Go, State}
 use Rattle.snap_rows.specs.declared.tables.RowAt.{RowAt}
 use Rattle.snap_rows.specs.declared.tables.Tables.{Tables}
 use Rattle.snap_rows.specs.Entries.{var_of}
-use Rattle.snap_gen.specs.Generated.{numbered_nodes}
-use Rattle.snap_gen.specs.Shown.{IsNumbering}
-use Rattle.snap_demand.specs.declared.switches.Switches.{Switches}
-use Rattle.snap_demand.specs.Demands.{AreDemanded, has_pair}
-use Rattle.snap_demand.specs.OnDemand.{HasNodes, place_of, staged}
+use Rattle.snap_faithful.specs.Generated.{numbered_nodes}
+use Rattle.snap_faithful.specs.Shown.{IsNumbering}
+use Rattle.snap_make.specs.declared.switches.Switches.{Switches}
+use Rattle.snap_make.specs.Demands.{AreDemanded, has_pair}
+use Rattle.snap_faithful.specs.OnDemand.{HasNodes, place_of, staged}
 use Rattle.snap_make.specs.Pairs.{at_switches, row_entry}
 use Rattle.snap_make.specs.Shares.{body_of}
 

@@ -2,13 +2,13 @@
 use Rattle.std.specs.Prelude.{◌≡◌, ◌⊎◌, ℕ, ◌<◌, Bool, true, false, Option, Some, List, length, slice_index, slice_index_or, slice_set}
 use Rattle.snap_core.specs.declared.policy.Test.{Test}
 use Rattle.snap_core.specs.declared.policy.Test.TheVariants.{Value, Equal, State as StateTest}
-use Rattle.snap_arena.specs.declared.node.Node.{Node}
-use Rattle.snap_arena.specs.declared.node.Node.TheVariants as node
-use Rattle.snap_fdd.specs.declared.leaf.Leaf.{Leaf}
+use Rattle.snap_diagrams.specs.declared.node.Node.{Node}
+use Rattle.snap_diagrams.specs.declared.node.Node.TheVariants as node
+use Rattle.snap_diagrams.specs.declared.leaf.Leaf.{Leaf}
 use Rattle.snap_rows.specs.declared.tables.Row.{Row}
 use Rattle.snap_rows.specs.declared.tables.Row.TheVariants.{Field}
 use Rattle.snap_rows.specs.Leads.{IsNumberAfter}
-use Rattle.snap_gen.specs.Shown.{IsNumbering}
+use Rattle.snap_faithful.specs.Shown.{IsNumbering}
 
 -- the numbers of some root's nodes
 pub record IsNumbered (ns : List (Node Leaf)) (ids numbers : List ℕ) : Type 0 where

@@ -1,4 +1,7 @@
-pub mod Framed
+pub mod Marks
+pub mod Demands
+pub mod Runs
+pub mod Outlined
 pub mod Fronts
 pub mod Known
 pub mod Pairs

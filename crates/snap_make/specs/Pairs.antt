@@ -1,6 +1,6 @@
 -- Lists by pairs of numbers: rows by switch and number, next hops by switch and target.
 use Rattle.std.specs.Prelude.{ℕ, zero, suc, ◌==◌, Option, Some, None, List, [], ◌∷◌, ◌++◌, if◌then◌else◌}
-use Rattle.snap_route.specs.Tables.{Table, next_of}
+use Rattle.snap_topology.specs.Tables.{Table, next_of}
 use Rattle.snap_rows.specs.declared.tables.Hop.{Hop}
 use Rattle.snap_rows.specs.declared.tables.Row.{Row}
 use Rattle.snap_rows.specs.declared.tables.RowAt.{RowAt}

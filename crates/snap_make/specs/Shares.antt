@@ -1,17 +1,17 @@
 -- The rows of switches, as they share the bodies of their numbers.
 use Rattle.std.specs.Prelude.{◌≡◌, ℕ, Bool, false, Option, List, ◌++◌, length, map, slice_get, slice_index, slice_index_or, unwrap_or}
 use Rattle.std.specs.List.{range_with_len}
-use Rattle.snap_arena.specs.declared.node.Node.{Node}
-use Rattle.snap_fdd.specs.declared.leaf.Leaf.{Leaf}
+use Rattle.snap_diagrams.specs.declared.node.Node.{Node}
+use Rattle.snap_diagrams.specs.declared.leaf.Leaf.{Leaf}
 use Rattle.snap_rows.specs.Bodies.{placed}
 use Rattle.snap_rows.specs.declared.lists.Placed.{Placed}
 use Rattle.snap_rows.specs.declared.tables.Row.{Row}
 use Rattle.snap_rows.specs.declared.tables.Row.TheVariants as row
 use Rattle.snap_rows.specs.declared.tables.RowAt.{RowAt}
 use Rattle.snap_rows.specs.declared.tables.Tables.{Tables}
-use Rattle.snap_gen.specs.Generated.{numbered_nodes}
-use Rattle.snap_gen.specs.Planned.{row_for}
-use Rattle.snap_gen.specs.Shown.{IsNumbering}
+use Rattle.snap_faithful.specs.Generated.{numbered_nodes}
+use Rattle.snap_faithful.specs.Planned.{row_for}
+use Rattle.snap_faithful.specs.Shown.{IsNumbering}
 use Rattle.snap_make.specs.Fronts.{AreMarked}
 use Rattle.snap_make.specs.Pairs.{Entry, at_switches, row_entry}
 

@@ -1,14 +1,14 @@
 -- What stands at a switch, and which rows it has.
 use Rattle.std.specs.Prelude.{◌≡◌, ℕ, Bool, false, ◌&&◌, ◌==◌, nat_le, Option, Some, None, List, slice_index, slice_index_or, if◌then◌else◌}
 use Rattle.snap_core.specs.declared.policy.Test.TheVariants.{Value, Equal, State as StateTest}
-use Rattle.snap_arena.specs.declared.node.Node.{Node}
-use Rattle.snap_arena.specs.declared.node.Node.TheVariants as node
-use Rattle.snap_fdd.specs.declared.leaf.Leaf.{Leaf}
+use Rattle.snap_diagrams.specs.declared.node.Node.{Node}
+use Rattle.snap_diagrams.specs.declared.node.Node.TheVariants as node
+use Rattle.snap_diagrams.specs.declared.leaf.Leaf.{Leaf}
 use Rattle.snap_rows.specs.declared.tables.Row.{Row}
 use Rattle.snap_rows.specs.declared.tables.Tables.{Tables}
 use Rattle.snap_rows.specs.Entries.{rank_of, ranks}
-use Rattle.snap_gen.specs.Planned.{has_port, has_ports, holds, row_for}
-use Rattle.snap_gen.specs.Generated.{numbered_nodes}
+use Rattle.snap_faithful.specs.Planned.{has_port, has_ports, holds, row_for}
+use Rattle.snap_faithful.specs.Generated.{numbered_nodes}
 use Rattle.snap_make.specs.declared.sites.Site.{Site}
 
 -- the rank, if any, is at most q

@@ -2,11 +2,11 @@
 use Rattle.std.specs.Prelude.{◌≡◌, ℕ, ◌<◌, Some, List, length, slice_get}
 use Rattle.snap_core.specs.declared.program.Program.{Program}
 use Rattle.snap_dep.specs.Ranks.{Grouping}
-use Rattle.snap_arena.specs.declared.node.Node.{Node}
-use Rattle.snap_fdd.specs.declared.leaf.Leaf.{Leaf}
-use Rattle.snap_fdd.specs.Diagrams.{diagram}
+use Rattle.snap_diagrams.specs.declared.node.Node.{Node}
+use Rattle.snap_diagrams.specs.declared.leaf.Leaf.{Leaf}
+use Rattle.snap_diagrams.specs.Diagrams.{diagram}
 use Rattle.snap_build.specs.Whole.{IsWhole}
-use Rattle.snap_gen.specs.Tidied.{Tidies}
+use Rattle.snap_faithful.specs.Tidied.{Tidies}
 use Rattle.snap_make.specs.Known.{IsKnown}
 
 -- the tidied diagram of some nodes that are the program's whole diagram, and hold what their types say

@@ -2,18 +2,18 @@
 
 ghost use Rattle.std.specs.Prelude.{◌≡◌, IfOk, length, map, slice_index};
 ghost use Rattle.std.specs.List.{range_with_len};
-ghost use Rattle.snap_arena.specs.declared.node.Node.TheVariants.{Leaf as NodeLeaf};
-ghost use Rattle.snap_gen.specs.Shown.{row_of};
+ghost use Rattle.snap_diagrams.specs.declared.node.Node.TheVariants.{Leaf as NodeLeaf};
+ghost use Rattle.snap_faithful.specs.Shown.{row_of};
 ghost use Rattle.snap_make.specs.Fronts.{HasWays, IsNumbered};
 ghost use Rattle.snap_make.specs.Shares.{body_of};
 
-use snap_arena::node::Node;
-use snap_arena::nodes::Nodes;
 use snap_core::NoMemory;
 use snap_core::lists::{Outs, Updates};
 use snap_core::policy::Test;
-use snap_fdd::leaf::Leaf;
-use snap_gen::numbering::Numbering;
+use snap_diagrams::leaf::Leaf;
+use snap_diagrams::node::Node;
+use snap_diagrams::nodes::Nodes;
+use snap_faithful::numbering::Numbering;
 use snap_rows::tables::Row;
 use std::alloc::Global;
 

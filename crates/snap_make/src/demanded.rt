@@ -2,21 +2,21 @@
 
 ghost use Rattle.std.specs.Prelude.{◌≡◌, ◌<◌, ◌≤◌, ◌+◌, ◌^◌, IfOk, OnOk, length, map, slice_get};
 ghost use Rattle.std.specs.List.{All};
-ghost use Rattle.snap_gen.specs.Planned.{IsNodeKind};
+ghost use Rattle.snap_faithful.specs.Planned.{IsNodeKind};
 ghost use Rattle.snap_rows.specs.Bodies.{IsPlaced};
-ghost use Rattle.snap_demand.specs.Demands.{IsSetting};
-ghost use Rattle.snap_demand.specs.OnDemand.{HasNodes, place_of, staged};
+ghost use Rattle.snap_make.specs.Demands.{IsSetting};
+ghost use Rattle.snap_faithful.specs.OnDemand.{HasNodes, place_of, staged};
 ghost use Rattle.snap_make.specs.Demanded.{AreDemandedRows, demanded, gone, place_on, with_gone};
 ghost use Rattle.snap_make.specs.Pairs.{at_switch, at_switches};
 ghost use Rattle.snap_make.specs.Shares.{Adds, entries};
 
+use crate::demands::demands;
+use crate::rows::{place, staged, var_of};
+use crate::switches::Switches;
 use snap_core::NoMemory;
-use snap_demand::demands::demands;
-use snap_demand::rows::{place, staged, var_of};
-use snap_demand::switches::Switches;
-use snap_route::table::Routes;
 use snap_rows::lists::{Placed, Rows};
 use snap_rows::tables::{Row, Tables};
+use snap_topology::table::Routes;
 use std::alloc::Global;
 
 // The bodies of numbers with these nodes.

@@ -2,15 +2,15 @@
 
 ghost use Rattle.std.specs.Prelude.{◌≡◌, ◌<◌, ◌+◌, ℕ, IfOk, Option, length, slice_index};
 ghost use Rattle.snap_rows.specs.declared.tables.Row.{Row};
-ghost use Rattle.snap_gen.specs.Generated.{numbered_nodes};
+ghost use Rattle.snap_faithful.specs.Generated.{numbered_nodes};
 ghost use Rattle.snap_make.specs.Fronts.{AreMarked, AreWithin, HasWays, IsNumbered, with_fields};
 
-use snap_arena::node::Node;
-use snap_arena::nodes::Nodes;
 use snap_core::NoMemory;
 use snap_core::policy::Test;
-use snap_fdd::leaf::Leaf;
-use snap_gen::numbering::Numbering;
+use snap_diagrams::leaf::Leaf;
+use snap_diagrams::node::Node;
+use snap_diagrams::nodes::Nodes;
+use snap_faithful::numbering::Numbering;
 use std::alloc::Global;
 
 // Marks the ways of a node that tests fields.

@@ -5,17 +5,17 @@ ghost use Rattle.std.specs.List.{All};
 ghost use Rattle.snap_core.specs.declared.policy.Update.{Update};
 ghost use Rattle.snap_core.specs.Laws.{OpIsSmall};
 ghost use Rattle.snap_core.specs.Tests.{IsRisingOut};
-ghost use Rattle.snap_arena.specs.declared.node.Node.{Node};
-ghost use Rattle.snap_arena.specs.Arena.{IsArena};
-ghost use Rattle.snap_fdd.specs.declared.leaf.Leaf.{Leaf};
+ghost use Rattle.snap_diagrams.specs.declared.node.Node.{Node};
+ghost use Rattle.snap_diagrams.specs.Arena.{IsArena};
+ghost use Rattle.snap_diagrams.specs.declared.leaf.Leaf.{Leaf};
 ghost use Rattle.snap_make.specs.Known.{IsKnown, LeafKnown};
 
-use snap_arena::node::Node;
-use snap_arena::nodes::Nodes;
 use snap_core::bits::op_is_small;
 use snap_core::lists::Out;
 use snap_core::policy::Update;
-use snap_fdd::leaf::Leaf;
+use snap_diagrams::leaf::Leaf;
+use snap_diagrams::node::Node;
+use snap_diagrams::nodes::Nodes;
 
 fn know_updates(ups: &[Update])
     ensures { All (λ (u : Update). OpIsSmall u.op) ups.now }

@@ -3,10 +3,14 @@
 
 mod bodies;
 mod demanded;
-mod frame;
+pub mod demands;
 mod fronts;
 mod known;
 pub mod on_demand;
+mod outline;
+pub mod rows;
 mod shares;
 mod sites;
+pub mod switches;
 pub mod tables;
+mod ways;

@@ -7,14 +7,14 @@ ghost use Rattle.snap_rows.specs.declared.tables.Row.{Row};
 ghost use Rattle.snap_rows.specs.declared.tables.Row.TheVariants as row;
 ghost use Rattle.snap_rows.specs.Bodies.{IsPlaced};
 ghost use Rattle.snap_rows.specs.Entries.{var_of};
-ghost use Rattle.snap_gen.specs.Planned.{row_for};
+ghost use Rattle.snap_faithful.specs.Planned.{row_for};
 ghost use Rattle.snap_make.specs.Pairs.{at_switch, at_switches};
 ghost use Rattle.snap_make.specs.Shares.{Adds, entries, shown, with_stop};
 ghost use Rattle.snap_make.specs.Sites.{IsSite};
 
+use crate::rows::var_of;
 use crate::sites::{Site, is_within, site_at};
 use snap_core::NoMemory;
-use snap_demand::rows::var_of;
 use snap_rows::lists::Placed;
 use snap_rows::tables::{ArrayAt, Row, Tables};
 use std::alloc::Global;

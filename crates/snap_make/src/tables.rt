@@ -4,56 +4,56 @@ ghost use Rattle.std.specs.Prelude.{◌≡◌, ◌<◌, IfOk, OnOk, length, map}
 ghost use Rattle.std.specs.List.{All, range_with_len};
 ghost use Rattle.snap_rows.specs.Bodies.{IsPlaced, placed};
 ghost use Rattle.snap_core.specs.Laws.{PutsSmall};
-ghost use Rattle.snap_core.specs.Programs.{IsInForm as IsProgramInForm};
-ghost use Rattle.snap_arena.specs.Arena.{IsArena};
+ghost use Rattle.snap_core.specs.Programs.{IsWellFormed as IsProgramWellFormed};
+ghost use Rattle.snap_diagrams.specs.Arena.{IsArena};
 ghost use Rattle.snap_build.specs.Whole.{IsWhole};
 ghost use Rattle.snap_dep.specs.Ranks.{IsGrouping};
-ghost use Rattle.snap_gen.specs.Faithful.{Faithful};
-ghost use Rattle.snap_place.specs.Answer.{GivesSwitches};
-ghost use Rattle.snap_route.specs.Tables.{AreRoutes};
-ghost use Rattle.snap_topo.specs.Form.{IsInForm};
+ghost use Rattle.snap_faithful.specs.Faithful.{Faithful};
+ghost use Rattle.snap_placement.specs.Answer.{GivesSwitches};
+ghost use Rattle.snap_topology.specs.Tables.{AreRoutes};
+ghost use Rattle.snap_topology.specs.Form.{IsWellFormed};
 ghost use Rattle.snap_make.specs.Fronts.{IsNumbered};
 ghost use Rattle.snap_make.specs.Shares.{AreRows, AreShares, body_of, with_stop};
 ghost use Rattle.snap_make.specs.Tidy.{IsTidy};
 
 use crate::bodies::bodies;
-use crate::frame::frame;
 use crate::fronts::fronts;
 use crate::known::know_nodes;
+use crate::outline::outline;
 use crate::shares::shares;
-use snap_arena::nodes::Nodes;
 use snap_build::building::Built;
 use snap_core::NoMemory;
 use snap_core::program::Program;
 use snap_dep::groups::Groups;
-use snap_fdd::leaf::Leaf;
-use snap_gen::images::tidied;
-use snap_gen::numbering::{Numbering, number};
-use snap_place::placement::Placement;
-use snap_route::table::Routes;
+use snap_diagrams::leaf::Leaf;
+use snap_diagrams::nodes::Nodes;
+use snap_faithful::images::tidied;
+use snap_faithful::numbering::{Numbering, number};
+use snap_placement::placement::Placement;
 use snap_rows::lists::{Placed, Rows};
 use snap_rows::proved::Proved;
 use snap_rows::tables::{Row, Tables};
 use snap_rows::valid::Valid;
-use snap_topo::topology::Topology;
+use snap_topology::table::Routes;
+use snap_topology::topology::Topology;
 use std::alloc::Global;
 
 // The rows of a numbered diagram with these bodies.
 fn numbered_shares(
     alloc: Global,
-    frame: &Tables,
+    outline: &Tables,
     nodes: &Nodes<Leaf>,
     numbering: &Numbering,
     bodies: &[Row],
 ) -> Result<Vec<Placed>, NoMemory>
     requires numbered { IsNumbered nodes.now numbering.now.ids.items numbering.now.numbers.items }
     requires bodies { bodies.now ≡ map (body_of nodes.now numbering.now.ids.items numbering.now.numbers.items) (range_with_len 0 (length numbering.now.ids.items)) }
-    requires few { length frame.now.switches < 65536 }
+    requires few { length outline.now.switches < 65536 }
     ensures placed { IfOk result (λ r. All (IsPlaced (with_stop bodies.now)) r.items) }
-    ensures rows { IfOk result (λ r. AreShares frame.now nodes.now numbering.now.ids.items numbering.now.numbers.items bodies.now (map (placed (with_stop bodies.now)) r.items)) }
+    ensures rows { IfOk result (λ r. AreShares outline.now nodes.now numbering.now.ids.items numbering.now.numbers.items bodies.now (map (placed (with_stop bodies.now)) r.items)) }
 {
     let fronts = fronts(alloc, nodes, numbering)?;
-    shares(alloc, frame, bodies, &fronts)
+    shares(alloc, outline, bodies, &fronts)
 }
 
 // Puts `stop` for each number behind the bodies of all: so each body stands at one number, and its words are made once.
@@ -67,15 +67,15 @@ fn push_stops(bodies: &mut Vec<Row>) -> Result<(), NoMemory>
 }
 
 // The rows of the numbers below a root.
-fn rows(alloc: Global, frame: &Tables, nodes: &Nodes<Leaf>, root: u64) -> Result<Rows, NoMemory>
+fn rows(alloc: Global, outline: &Tables, nodes: &Nodes<Leaf>, root: u64) -> Result<Rows, NoMemory>
     requires root { root < length nodes.now }
-    requires few { length frame.now.switches < 65536 }
+    requires few { length outline.now.switches < 65536 }
     ensures arena { IsArena nodes.now }
-    ensures rows { IfOk result (λ r. AreRows frame.now nodes.now root r) }
+    ensures rows { IfOk result (λ r. AreRows outline.now nodes.now root r) }
 {
     let numbering = number(alloc, nodes, root)?;
     let mut bodies = bodies(alloc, nodes, &numbering)?;
-    let shares = numbered_shares(alloc, frame, nodes, &numbering, &bodies)?;
+    let shares = numbered_shares(alloc, outline, nodes, &numbering, &bodies)?;
     push_stops(&mut bodies)?;
     Ok(Rows::new(bodies, shares))
 }
@@ -90,16 +90,16 @@ fn tidy_tables(
     placement: &Placement,
     routes: &Routes,
 ) -> Result<Proved, NoMemory>
-    requires form { IsProgramInForm program.now }
+    requires form { IsProgramWellFormed program.now }
     requires small { PutsSmall program.now.body }
-    requires groups { IsGrouping program.now.body (length program.now.vars) groups.now }
+    requires groups { IsGrouping program.now.body (length program.now.arrays) groups.now }
     requires tidy { IsTidy program.now groups.now built.now.nodes built.now.root }
-    requires topology { IsInForm topology.now }
+    requires topology { IsWellFormed topology.now }
     requires routes { AreRoutes topology.now routes.now }
     requires placement { GivesSwitches program.now topology.now placement.now }
     ensures { IfOk result (λ t. Faithful program.now topology.now placement.now t × (t.version ≡ 2)) }
 {
-    let mut tables = frame(alloc, 2, program, groups, topology, placement, routes)?;
+    let mut tables = outline(alloc, 2, program, groups, topology, placement, routes)?;
     tables.rows = rows(alloc, &tables, &built.nodes, built.root)?;
     Ok(Proved::new(tables))
 }
@@ -118,11 +118,11 @@ pub fn proved_tables(
     placement: &Placement,
     routes: &Routes,
 ) -> Result<Proved, NoMemory>
-    requires form { IsProgramInForm program.now }
+    requires form { IsProgramWellFormed program.now }
     requires small { PutsSmall program.now.body }
-    requires groups { IsGrouping program.now.body (length program.now.vars) groups.now }
+    requires groups { IsGrouping program.now.body (length program.now.arrays) groups.now }
     requires whole { IsWhole program.now groups.now built.old.nodes built.old.root }
-    requires topology { IsInForm topology.now }
+    requires topology { IsWellFormed topology.now }
     requires routes { AreRoutes topology.now routes.now }
     requires placement { GivesSwitches program.now topology.now placement.now }
     ensures { IfOk result (λ t. Faithful program.now topology.now placement.now t × (t.version ≡ 2)) }
@@ -142,11 +142,11 @@ pub fn tables(
     placement: &Placement,
     routes: &Routes,
 ) -> Result<Valid, NoMemory>
-    requires form { IsProgramInForm program.now }
+    requires form { IsProgramWellFormed program.now }
     requires small { PutsSmall program.now.body }
-    requires groups { IsGrouping program.now.body (length program.now.vars) groups.now }
+    requires groups { IsGrouping program.now.body (length program.now.arrays) groups.now }
     requires whole { IsWhole program.now groups.now built.nodes built.root }
-    requires topology { IsInForm topology.now }
+    requires topology { IsWellFormed topology.now }
     requires routes { AreRoutes topology.now routes.now }
     requires placement { GivesSwitches program.now topology.now placement.now }
     ensures { IfOk result (λ t. Faithful program.now topology.now placement.now t × (t.version ≡ 2)) }

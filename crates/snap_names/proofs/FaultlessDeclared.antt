@@ -18,7 +18,7 @@ use Rattle.snap_names.proofs.BoundedSteps.{IfOk-after, IfOk-both, IfOk-unless_is
 use Rattle.snap_names.proofs.Faultless.{literal-number, or_fault-is}
 use Rattle.snap_names.proofs.ReadTrees.{Agrees, Agrees-before}
 use Rattle.snap_names.proofs.Placed.{DeclWritten, SourceWritten}
-use Rattle.snap_names.proofs.InForm.{seen_or, greatest-bounds}
+use Rattle.snap_names.proofs.WellFormed.{seen_or, greatest-bounds}
 use Rattle.snap_names.proofs.TreeReadings.{number, IsPolicy, IsLength, plain, split, Declares, field, array, const, body_of_let, DeclaresAll, no_more, one_more, IsProgramOf}
 
 -- more is declared
@@ -168,7 +168,7 @@ record IsLimited (d : Declared) (x : CorePolicy × Arities) (p : CoreProgram) : 
   few_nodes : nodes x.0 ≤ 2000
   light : weight x.0 ≤ 16777216
   fields_are : p.fields ≡ d.fields
-  arrays_are : p.vars ≡ d.arrays
+  arrays_are : p.arrays ≡ d.arrays
   body_is : p.body ≡ x.0
 
 limited-is : (d : Declared) (x : CorePolicy × Arities) → IfOk (limited d x) (IsLimited d x)

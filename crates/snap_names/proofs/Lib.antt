@@ -12,7 +12,7 @@ pub mod Loops
 pub mod Parted
 pub mod Placed
 pub mod NameParts
-pub mod InForm
+pub mod WellFormed
 pub mod SpelledNames
 pub mod DerivedTrees
 pub mod Nodes

@@ -2,7 +2,7 @@
 use Rattle.std.proofs.Common.{◌≡◌, ℕ, ◌+◌, ◌<◌, List, [], ◌∷◌, ◌++◌, length, take, drop, get_or, map, Option, Some, Result, Ok, Err, refl, ap, sym, ◌∙◌, subst, add-one, is_some, if◌then◌else◌}
 use Rattle.std.proofs.lemmas.List.{take_more, take-append-drop, map-append}
 use Rattle.std.proofs.Math.Seq.{drop-cons}
-use Rattle.snap_names.specs.Parts.{Part, Tally, itself, HasRead, HaveRead, JoinsParts}
+use Rattle.snap_names.specs.Parts.{Part, Sizes, itself, HasRead, HaveRead, JoinsParts}
 use Rattle.snap_names.specs.Senses.{NameFault, Arities, after}
 use Rattle.snap_names.specs.Core.{CoreTest, CorePolicy, filter, par, seq, and_test, or_test, nodes}
 use Rattle.snap_names.specs.Declarations.{capped}
@@ -48,7 +48,7 @@ module _ {P X T A : Type 0} (r : Repeats P X T) (o : InOrder r A) where
   of-parted : (xs ys : List P) (x : P) → of r (xs ++ x ∷ ys) ≡ r.append (r.behind (of r xs) (r.tree x)) (map r.tree ys)
   of-parted xs ys x = ap (r.append r.none) (map-append r.tree xs (x ∷ ys)) ∙ append-both r.none (map r.tree xs) (map r.tree (x ∷ ys)) ∙ r.append_one (of r xs) (r.tree x) (map r.tree ys)
 
-  pub step : (items : List P) (i : ℕ) (part : P) (old before mid new : Tally) (parts : Option Part) (next p : Part) → i < length items → part ≡ get_or items i part →
+  pub step : (items : List P) (i : ℕ) (part : P) (old before mid new : Sizes) (parts : Option Part) (next p : Part) → i < length items → part ≡ get_or items i part →
       HaveRead o.form (o.read (of r (take i items)) old.arities.items) old before parts → HasRead o.form (o.one (r.tree part) before.arities.items) before mid next →
       new.arities.items ≡ mid.arities.items → new.nodes ≡ (if is_some parts then capped (mid.nodes + 1) else mid.nodes) →
       JoinsParts o.form o.join mid.nodes new.nodes parts next p →
@@ -64,7 +64,7 @@ module _ {P X T A : Type 0} (r : Repeats P X T) (o : InOrder r A) where
   append-refused t [] a e h = ap (λ u. o.read u a) (r.append_none t) ∙ h
   append-refused t (x ∷ xs) a e h = ap (λ u. o.read u a) (r.append_one t x xs) ∙ append-refused (r.behind t x) xs a e (o.read_one t x a ∙ ap (λ y. after y (more o.join (o.one x))) h)
 
-  pub refused : (items : List P) (i : ℕ) (part : P) (old before : Tally) (parts : Option Part) (e : NameFault) → i < length items → part ≡ get_or items i part →
+  pub refused : (items : List P) (i : ℕ) (part : P) (old before : Sizes) (parts : Option Part) (e : NameFault) → i < length items → part ≡ get_or items i part →
       HaveRead o.form (o.read (of r (take i items)) old.arities.items) old before parts → o.one (r.tree part) before.arities.items ≡ Err e → o.read (of r items) old.arities.items ≡ Err e
   refused items i part old before parts e within is h k =
       let a = old.arities.items in

@@ -1,7 +1,7 @@
 -- What a lone name reads as.
 use Rattle.std.proofs.Common.{◌≡◌, ℕ, zero, suc, ◌+◌, List, [], ◌∷◌, Some, None, Result, Ok, Err, refl, ap, sym, subst, ◌∙◌, slice_get, arith, IfOk, IfErr, OnOk}
 use Rattle.snap_names.specs.Senses.{Span, Policy, NameFault, Kind, NoMemory, after, or_fault, sense_of}
-use Rattle.snap_names.specs.Parts.{Part, Body, Tally, Scope, IsPart, IsBody, AreBodies, no_bodies, more_bodies, Reads, words_of, env_in}
+use Rattle.snap_names.specs.Parts.{Part, Body, Sizes, Scope, IsPart, IsBody, AreBodies, no_bodies, more_bodies, Reads, words_of, env_in}
 use Rattle.snap_names.specs.Core.{CorePolicy, nodes}
 use Rattle.snap_names.specs.Declarations.{capped}
 use Rattle.snap_names.specs.Reading.{named, body_of, is_filter_or_fault}
@@ -29,7 +29,7 @@ no_body_at (x ∷ bs) (p ∷ ps) (more_bodies h hs) zero e = cc
 no_body_at (x ∷ bs) (p ∷ ps) (more_bodies h hs) (suc i) e = no_body_at bs ps hs i e
 
 -- a `let`
-pub Reads-named : (s : Scope) (name : Span) (old new : Tally) (result : Result Part NameFault) (i : ℕ) (b : Body) →
+pub Reads-named : (s : Scope) (name : Span) (old new : Sizes) (result : Result Part NameFault) (i : ℕ) (b : Body) →
     sense_of (words_of s) name ≡ Ok (Policy i) → slice_get s.lets.items i ≡ Some b →
     IfOk result (λ part. (p : CorePolicy) → IsBody b p → IsPart p new.nodes part) →
     OnOk result (new.nodes ≡ capped (old.nodes + b.nodes)) → OnOk result (new.arities.items ≡ old.arities.items) → IfErr result (λ f. f ≡ NoMemory) →

@@ -156,7 +156,7 @@ greatest-few (Some m ∷ seen) most h =
     let rest : greatest seen ≤ most = greatest-few seen most (λ i n k. h (suc i) n k) in
     omega (arith, here, rest)
 
-limited-gives : (d : Declared) (x : CorePolicy × Arities) → count d.fields ≤ 64 → length d.arrays ≤ 64 → greatest x.1 ≤ 8 → nodes x.0 ≤ 2000 → weight x.0 ≤ 16777216 → limited d x ≡ Ok (record { fields = d.fields; vars = d.arrays; body = x.0 })
+limited-gives : (d : Declared) (x : CorePolicy × Arities) → count d.fields ≤ 64 → length d.arrays ≤ 64 → greatest x.1 ≤ 8 → nodes x.0 ≤ 2000 → weight x.0 ≤ 16777216 → limited d x ≡ Ok (record { fields = d.fields; arrays = d.arrays; body = x.0 })
 limited-gives d x a b c e f =
     within-gives Components (count d.fields) 64 _ a
     ∙ within-gives Arrays (length d.arrays) 64 _ b
@@ -183,8 +183,8 @@ resolved-IsProgramOf text s p h =
     after-gives (declare_all text s.decls ports) (λ d. after (read_policy (env_of text d) s.policy d.arities) (limited d)) d given.gives
     ∙ after-gives (read_policy (env_of text d) s.policy given.behind) (limited d) (core_policy p.body, read.0) read.1
     ∙ limited-gives d (core_policy p.body, read.0) few few_arrays most h.few_nodes h.light
-    ∙ ap (λ fs. Ok (record { fields = fs; vars = f.arrays; body = core_policy p.body })) (sym h.fields)
-    ∙ ap (λ vs. Ok (record { fields = p.fields; vars = vs; body = core_policy p.body })) (sym h.arrays)
+    ∙ ap (λ fs. Ok (record { fields = fs; arrays = f.arrays; body = core_policy p.body })) (sym h.fields)
+    ∙ ap (λ vs. Ok (record { fields = p.fields; arrays = vs; body = core_policy p.body })) (sym h.arrays)
   where
     at_most : {n m : ℕ} → n ≡ m → m ≤ 8 → n ≤ 8
     at_most k l = omega (arith, k, l)

@@ -1,6 +1,6 @@
 -- How a reading goes on as more is read.
 use Rattle.std.proofs.Common.{◌≡◌, ℕ, ◌+◌, Bool, true, false, Option, Some, None, Result, Ok, Err, refl, ap, sym, ◌∙◌, arith, subst, is_some, if◌then◌else◌}
-use Rattle.snap_names.specs.Parts.{Part, Tally, IsPart, IsPartOf, itself, HasRead, HaveRead, nodes_of_all, JoinsParts, JoinsChoice}
+use Rattle.snap_names.specs.Parts.{Part, Sizes, IsPart, IsPartOf, itself, HasRead, HaveRead, nodes_of_all, JoinsParts, JoinsChoice}
 use Rattle.snap_names.specs.Senses.{NameFault, Arities, after}
 use Rattle.snap_names.specs.Core.{CorePolicy, id_test, filter, choice, is_filter, test_nodes, nodes}
 use Rattle.snap_names.specs.Reading.{Reading, TestReading, joined, more, as_test, operand, whole_as}
@@ -28,7 +28,7 @@ module _ {A : Type 0} (form : A → CorePolicy) where
 
   -- one more operand was read and joined
   pub HaveRead-more : (f : A → A → A) → ((x y : A) → nodes (form (f x y)) ≡ 1 + nodes (form x) + nodes (form y)) →
-      (r : Result (Option A × Arities) NameFault) (read : Arities → Result (A × Arities) NameFault) (old before mid new : Tally) (parts : Option Part) (next part : Part) →
+      (r : Result (Option A × Arities) NameFault) (read : Arities → Result (A × Arities) NameFault) (old before mid new : Sizes) (parts : Option Part) (next part : Part) →
       HaveRead form r old before parts → HasRead form (read before.arities.items) before mid next →
       new.arities.items ≡ mid.arities.items → new.nodes ≡ (if is_some parts then capped (mid.nodes + 1) else mid.nodes) →
       JoinsParts form f mid.nodes new.nodes parts next part →
@@ -46,11 +46,11 @@ module _ {A : Type 0} (form : A → CorePolicy) where
       }
 
   -- nothing was read yet
-  pub HaveRead-none : (old : Tally) → HaveRead form (Ok (None, old.arities.items)) old old None
+  pub HaveRead-none : (old : Sizes) → HaveRead form (Ok (None, old.arities.items)) old old None
   HaveRead-none old = record { value = None; reading = refl; counted = omega arith; stands = tt }
 
   -- all operands of a repeated part
-  whole_of : (r : Result (Option A × Arities) NameFault) (old new : Tally) (part : Part) (h : HaveRead form r old new (Some part)) →
+  whole_of : (r : Result (Option A × Arities) NameFault) (old new : Sizes) (part : Part) (h : HaveRead form r old new (Some part)) →
       (x : Option A) → x ≡ h.value → HasRead itself (after r (whole_as form)) old new part
   whole_of r old new part h None is = absurd (subst (λ x. IsPartOf form x new.nodes (Some part)) (sym is) h.stands)
   whole_of r old new part h (Some x) is = record {
@@ -60,11 +60,11 @@ module _ {A : Type 0} (form : A → CorePolicy) where
     stands = subst (λ y. IsPartOf form y new.nodes (Some part)) (sym is) h.stands;
   }
 
-  pub HasRead-whole : (r : Result (Option A × Arities) NameFault) (old new : Tally) (part : Part) → HaveRead form r old new (Some part) → HasRead itself (after r (whole_as form)) old new part
+  pub HasRead-whole : (r : Result (Option A × Arities) NameFault) (old new : Sizes) (part : Part) → HaveRead form r old new (Some part) → HasRead itself (after r (whole_as form)) old new part
   HasRead-whole r old new part h = whole_of r old new part h h.value refl
 
   -- no operands
-  whole_none_of : (r : Result (Option A × Arities) NameFault) (old before new : Tally) (part : Part) (h : HaveRead form r old before None) →
+  whole_none_of : (r : Result (Option A × Arities) NameFault) (old before new : Sizes) (part : Part) (h : HaveRead form r old before None) →
       new.arities.items ≡ before.arities.items → new.nodes ≡ capped (before.nodes + 1) → IsPart (filter id_test) new.nodes part →
       (x : Option A) → x ≡ h.value → HasRead itself (after r (whole_as form)) old new part
   whole_none_of r old before new part h arities count is_id None is = record {
@@ -78,12 +78,12 @@ module _ {A : Type 0} (form : A → CorePolicy) where
       one_more old before new a b = omega arith
   whole_none_of r old before new part h arities count is_id (Some x) is = absurd (subst (λ y. IsPartOf form y before.nodes None) (sym is) h.stands)
 
-  pub HasRead-whole_none : (r : Result (Option A × Arities) NameFault) (old before new : Tally) (part : Part) → HaveRead form r old before None →
+  pub HasRead-whole_none : (r : Result (Option A × Arities) NameFault) (old before new : Sizes) (part : Part) → HaveRead form r old before None →
       new.arities.items ≡ before.arities.items → new.nodes ≡ capped (before.nodes + 1) → IsPart (filter id_test) new.nodes part → HasRead itself (after r (whole_as form)) old new part
   HasRead-whole_none r old before new part h arities count is_id = whole_none_of r old before new part h arities count is_id h.value refl
 
   -- a part that another is built round
-  pub HasRead-round : (g : A → CorePolicy) → ((x : A) → nodes (g x) ≡ 1 + nodes (form x)) → (r : Result (A × Arities) NameFault) (old mid new : Tally) (part round : Part) →
+  pub HasRead-round : (g : A → CorePolicy) → ((x : A) → nodes (g x) ≡ 1 + nodes (form x)) → (r : Result (A × Arities) NameFault) (old mid new : Sizes) (part round : Part) →
       HasRead form r old mid part → new.arities.items ≡ mid.arities.items → new.nodes ≡ capped (mid.nodes + 1) →
       ((x : A) → IsPart (form x) mid.nodes part → IsPart (g x) new.nodes round) → HasRead itself (after r (λ x. Ok (g x.0, x.1))) old new round
   HasRead-round g cost r old mid new part round h arities count join = record {
@@ -97,7 +97,7 @@ module _ {A : Type 0} (form : A → CorePolicy) where
       sum_of old mid new x y h e c = omega arith
 
 -- an operand is the policy that was read, where that is a filter
-as_test_of : (f : NameFault) (r : Reading) (old new : Tally) (part : Part) (h : HasRead itself r old new part) → part.is_test ≡ true →
+as_test_of : (f : NameFault) (r : Reading) (old new : Sizes) (part : Part) (h : HasRead itself r old new part) → part.is_test ≡ true →
     (p : CorePolicy) → p ≡ h.value → HasRead filter (after r (as_test f)) old new part
 as_test_of f r old new part h t (filter x) is = record {
   value = x;
@@ -108,22 +108,22 @@ as_test_of f r old new part h t (filter x) is = record {
 as_test_of f r old new part h t _ is = absurd (let no : true ≡ false = sym t ∙ h.stands.is_test ∙ ap is_filter (sym is) in cc)
 
 -- as it was found to be a predicate or not
-pub HasRead-operand : (b found : Bool) (f : NameFault) (r : Reading) (old new : Tally) (part : Part) → found ≡ b → found ≡ true → HasRead itself r old new part → part.is_test ≡ true →
+pub HasRead-operand : (b found : Bool) (f : NameFault) (r : Reading) (old new : Sizes) (part : Part) → found ≡ b → found ≡ true → HasRead itself r old new part → part.is_test ≡ true →
     HasRead filter (operand b f r) old new part
 HasRead-operand b found f r old new part is met h t = subst (λ c. HasRead filter (operand c f r) old new part) (sym met ∙ is) (as_test_of f r old new part h t h.value refl)
 
 -- a policy that is no filter is refused
-no_test_of : (f : NameFault) (r : Reading) (old new : Tally) (part : Part) (h : HasRead itself r old new part) → part.is_test ≡ false →
+no_test_of : (f : NameFault) (r : Reading) (old new : Sizes) (part : Part) (h : HasRead itself r old new part) → part.is_test ≡ false →
     (p : CorePolicy) → p ≡ h.value → after r (as_test f) ≡ Err f
 no_test_of f r old new part h t (filter x) is = absurd (let no : false ≡ true = sym t ∙ h.stands.is_test ∙ ap is_filter (sym is) in cc)
 no_test_of f r old new part h t _ is = ap (λ y. after y (as_test f)) h.reading ∙ ap (λ p. as_test f (p, new.arities.items)) (sym is)
 
-pub operand-no_test : (b found : Bool) (f g : NameFault) (r : Reading) (old new : Tally) (part : Part) → found ≡ b → found ≡ true → g ≡ f → HasRead itself r old new part → part.is_test ≡ false →
+pub operand-no_test : (b found : Bool) (f g : NameFault) (r : Reading) (old new : Sizes) (part : Part) → found ≡ b → found ≡ true → g ≡ f → HasRead itself r old new part → part.is_test ≡ false →
     operand b f r ≡ Err g
 operand-no_test b found f g r old new part is met same h t = ap (λ c. operand c f r) (sym is ∙ met) ∙ no_test_of f r old new part h t h.value refl ∙ ap Err (sym same)
 
 -- the parts of a choice were read
-pub HasRead-choice : (test : TestReading) (met unmet : Arities → Reading) (old a b c new : Tally) (x p q r : Part) →
+pub HasRead-choice : (test : TestReading) (met unmet : Arities → Reading) (old a b c new : Sizes) (x p q r : Part) →
     HasRead filter test old a x → HasRead itself (met a.arities.items) a b p → HasRead itself (unmet b.arities.items) b c q →
     new.arities.items ≡ c.arities.items → new.nodes ≡ capped (c.nodes + 1) →
     JoinsChoice c.nodes new.nodes x p q r →
@@ -146,7 +146,7 @@ HasRead-choice test met unmet old a b c new x p q r h k l arities count join = r
     sum_of old a b c new x p q h k l e = omega arith
 
 -- a simple policy
-pub HasRead-leaf : (r : Reading) (policy : CorePolicy) (old mid new : Tally) (part : Part) → r ≡ Ok (policy, mid.arities.items) → mid.nodes ≡ old.nodes →
+pub HasRead-leaf : (r : Reading) (policy : CorePolicy) (old mid new : Sizes) (part : Part) → r ≡ Ok (policy, mid.arities.items) → mid.nodes ≡ old.nodes →
     new.arities.items ≡ mid.arities.items → new.nodes ≡ capped (mid.nodes + nodes policy) → IsPart policy new.nodes part → HasRead itself r old new part
 HasRead-leaf r policy old mid new part e same arities count h = record {
   value = policy;

@@ -3,7 +3,7 @@ use Rattle.std.proofs.Common.{◌≡◌, ℕ, ◌≤◌, ◌<◌, ◌+◌, lengt
 use Rattle.std.proofs.lemmas.List.{drop_all}
 use Rattle.std.proofs.lemmas.Result.{err_from_is_err_and}
 use Rattle.std.proofs.Math.Seq.{drop-cons}
-use Rattle.snap_names.specs.Parts.{Part, Tally, AreBodies, itself, HasRead, env_in, Scope}
+use Rattle.snap_names.specs.Parts.{Part, Sizes, AreBodies, itself, HasRead, env_in, Scope}
 use Rattle.snap_parse.specs.Tree.{DeclTree, SourceTree}
 use Rattle.snap_names.specs.Senses.{NameFault, Arities, after}
 use Rattle.snap_names.specs.Core.{CorePolicy, nodes}
@@ -59,7 +59,7 @@ map-drop f xs i x h e = ap (map f) (drop-cons xs i x h) ∙ rw (add-one, ← e) 
 pub drop-all : {A B : Type 0} (f : A → B) (xs : List A) (i : ℕ) → length xs ≤ i → map f (drop i xs) ≡ []
 drop-all f xs i h = ap (map f) (drop_all i xs h)
 
-pub resolved-limited : (text : List ℕ) (tree : SourceTree) (s : Scope) (arities : Arities) (old new : Tally) (part : Part) (a : Result CoreProgram NameFault)
+pub resolved-limited : (text : List ℕ) (tree : SourceTree) (s : Scope) (arities : Arities) (old new : Sizes) (part : Part) (a : Result CoreProgram NameFault)
     → AreDeclared text tree.decls [] s arities
     → ((lets : List CorePolicy) → AreBodies s.lets.items lets → HasRead itself (read_policy (env_in s lets) tree.policy arities) (record old { nodes = 0 }) new part)
     → Limits s new part (λ r. r ≡ a) → resolved text tree ≡ a

@@ -118,9 +118,9 @@ pub record IsProgramOf (text : List ℕ) (s : SourceTree) (p : Program) : Type 0
   pub scope : Scope
   pub declared : DeclaresAll (before_text text atoms) s.decls scope
   pub fields : p.fields ≡ scope.fields
-  pub arrays : p.vars ≡ scope.arrays
+  pub arrays : p.arrays ≡ scope.arrays
   pub body : IsPolicy scope s.policy (core_policy p.body)
   pub few_components : count p.fields ≤ 64
-  pub few_arrays : length p.vars ≤ 64
+  pub few_arrays : length p.arrays ≤ 64
   pub few_nodes : nodes (core_policy p.body) ≤ 2000
   pub light : weight (core_policy p.body) ≤ 16777216

@@ -100,11 +100,11 @@ declare_all text (t ∷ ts) d = after (declare text d t) (declare_all text ts)
 -- a program in the core language, and how many atoms each array is indexed with
 pub record CoreProgram : Type 0 where
   pub fields : List Field
-  pub vars : List (List ℕ)
+  pub arrays : List (List ℕ)
   pub body : CorePolicy
 
 abbrev pub core_program : Program → CoreProgram
-core_program p = record { fields = p.fields; vars = p.vars; body = core_policy p.body }
+core_program p = record { fields = p.fields; arrays = p.arrays; body = core_policy p.body }
 
 -- Counts in faults are given up to this number.
 abbrev pub capped : ℕ → ℕ
@@ -128,7 +128,7 @@ limited d x =
     (within Atoms (greatest x.1) 8
     (within Nodes (nodes x.0) 2000
     (within Weight (weight x.0) 16777216
-    (Ok (record { fields = d.fields; vars = d.arrays; body = x.0 }))))))
+    (Ok (record { fields = d.fields; arrays = d.arrays; body = x.0 }))))))
 
 -- The core program of a tree; or its first broken naming rule; or, where none is broken, the first limit that is passed.
 abbrev pub resolved : List ℕ → SourceTree → Result CoreProgram NameFault

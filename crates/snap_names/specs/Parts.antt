@@ -11,7 +11,7 @@ use Rattle.snap_names.specs.declared.parts.PolicyJoin.TheVariants.{Beside, Behin
 use Rattle.snap_names.specs.declared.scope.Sense.{Sense}
 pub use Rattle.snap_names.specs.declared.scope.Part.{Part}
 pub use Rattle.snap_names.specs.declared.scope.Body.{Body}
-pub use Rattle.snap_names.specs.declared.scope.Tally.{Tally}
+pub use Rattle.snap_names.specs.declared.scope.Sizes.{Sizes}
 pub use Rattle.snap_names.specs.declared.scope.Scope.{Scope}
 use Rattle.snap_names.specs.declared.fault.NameFault.{NameFault}
 use Rattle.snap_names.specs.declared.fault.NameFault.TheVariants.{NoMemory}
@@ -106,7 +106,7 @@ JoinsChoice before all test left right part = (x : CoreTest) (p q : CorePolicy)
     → IsPart (filter x) before test → IsPart p before left → IsPart q before right → IsPart (choice x p q) all part
 
 -- What was read is the core policy that `form` says, and its nodes are counted.
-pub record HasRead {A : Type 0} (form : A → CorePolicy) (r : Result (A × Arities) NameFault) (old new : Tally) (part : Part) : Type 0 where
+pub record HasRead {A : Type 0} (form : A → CorePolicy) (r : Result (A × Arities) NameFault) (old new : Sizes) (part : Part) : Type 0 where
   pub value : A
   pub reading : r ≡ Ok (value, new.arities.items)
   pub counted : capped new.nodes ≡ capped (old.nodes + nodes (form value))
@@ -118,7 +118,7 @@ nodes_of_all form None = 0
 nodes_of_all form (Some x) = nodes (form x)
 
 pub record HaveRead {A : Type 0} (form : A → CorePolicy)
-    (r : Result (Option A × Arities) NameFault) (old new : Tally) (parts : Option Part) : Type 0 where
+    (r : Result (Option A × Arities) NameFault) (old new : Sizes) (parts : Option Part) : Type 0 where
   pub value : Option A
   pub reading : r ≡ Ok (value, new.arities.items)
   pub counted : capped new.nodes ≡ capped (old.nodes + nodes_of_all form value)
@@ -129,23 +129,23 @@ abbrev pub Refuses : {A B : Type 0} → Result A NameFault → Result B NameFaul
 Refuses r result = IfErr result (λ f. f ≢ NoMemory → r ≡ Err f)
 
 -- The answer is the reading's, but for want of memory, whatever core policies the bodies of `let` stand for.
-abbrev pub Reads : Scope → (Env → Arities → Reading) → Tally → Tally → Result Part NameFault → Type 0
+abbrev pub Reads : Scope → (Env → Arities → Reading) → Sizes → Sizes → Result Part NameFault → Type 0
 Reads s read old new (Ok part) = (lets : List CorePolicy) → AreBodies s.lets.items lets
     → HasRead itself (read (env_in s lets) old.arities.items) old new part
 Reads s read old new (Err f) = f ≢ NoMemory → (lets : List CorePolicy)
     → AreBodies s.lets.items lets → read (env_in s lets) old.arities.items ≡ Err f
 
-abbrev pub ReadsTest : Scope → (Env → Arities → TestReading) → Tally → Tally → Result Part NameFault → Type 0
+abbrev pub ReadsTest : Scope → (Env → Arities → TestReading) → Sizes → Sizes → Result Part NameFault → Type 0
 ReadsTest s read old new (Ok part) = (lets : List CorePolicy) → AreBodies s.lets.items lets
     → HasRead filter (read (env_in s lets) old.arities.items) old new part
 ReadsTest s read old new (Err f) = f ≢ NoMemory → (lets : List CorePolicy)
     → AreBodies s.lets.items lets → read (env_in s lets) old.arities.items ≡ Err f
 
 -- a simple policy was read, without counting its nodes
-abbrev pub ReadsSimple : Reading → Tally → Result Pol NameFault → Type 0
+abbrev pub ReadsSimple : Reading → Sizes → Result Pol NameFault → Type 0
 ReadsSimple r new (Ok p) = r ≡ Ok (core_policy p, new.arities.items)
 ReadsSimple r new (Err f) = f ≢ NoMemory → r ≡ Err f
 
 -- an array that is indexed, with the arities behind it
-abbrev pub place_with : Indexed → Tally → Place
+abbrev pub place_with : Indexed → Sizes → Place
 place_with p tally = record { var = p.var; index = p.index; arities = tally.arities.items }

@@ -3,7 +3,7 @@ use Rattle.std.specs.Prelude.{◌≡◌, ◌≢◌, ℕ, ◌≤◌, false, List,
 use Rattle.snap_core.specs.Fields.{count, IsFields}
 use Rattle.snap_parse.specs.Tree.{DeclTree}
 use Rattle.snap_names.specs.declared.scope.Part.{Part}
-use Rattle.snap_names.specs.declared.scope.Tally.{Tally}
+use Rattle.snap_names.specs.declared.scope.Sizes.{Sizes}
 use Rattle.snap_names.specs.declared.scope.Scope.{Scope}
 use Rattle.snap_names.specs.declared.fault.NameFault.{NameFault}
 use Rattle.snap_names.specs.declared.fault.NameFault.TheVariants.{NoMemory}
@@ -47,12 +47,12 @@ abbrev pub AreFields : Scope → Type 0
 AreFields s = count s.fields.items ≤ 64 → IsFields s.fields.items
 
 -- The program of a scope is within all limits, where a part stands for its body.
-abbrev pub IsWithin : Scope → Tally → Part → Type 0
+abbrev pub IsWithin : Scope → Sizes → Part → Type 0
 IsWithin s tally part = (lets : List CorePolicy) (p : CorePolicy) → capped tally.nodes ≡ capped (nodes p)
     → IsPart p tally.nodes part → limited (declared_in s lets tally.arities.items) (p, tally.arities.items)
-    ≡ Ok (record { fields = s.fields.items; vars = s.arrays.items; body = p })
+    ≡ Ok (record { fields = s.fields.items; arrays = s.arrays.items; body = p })
 
 -- what `limited` gives for a scope, where a part stands for a whole body
-abbrev pub Limits : Scope → Tally → Part → (Result CoreProgram NameFault → Type 0) → Type 0
+abbrev pub Limits : Scope → Sizes → Part → (Result CoreProgram NameFault → Type 0) → Type 0
 Limits s tally part Q = (lets : List CorePolicy) (p : CorePolicy) → capped tally.nodes ≡ capped (nodes p)
     → IsPart p tally.nodes part → Q (limited (declared_in s lets tally.arities.items) (p, tally.arities.items))

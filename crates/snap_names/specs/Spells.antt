@@ -215,8 +215,8 @@ pub record SpellsProgram (text : List ℕ) (p : Program) : Type 0 where
   pub scope : Scope
   pub read : IsProgram (before_text text atoms) tokens scope (core_policy p.body)
   pub fields : p.fields ≡ scope.fields
-  pub arrays : p.vars ≡ scope.arrays
+  pub arrays : p.arrays ≡ scope.arrays
   pub few_components : count p.fields ≤ 64
-  pub few_arrays : length p.vars ≤ 64
+  pub few_arrays : length p.arrays ≤ 64
   pub few_nodes : nodes (core_policy p.body) ≤ 2000
   pub light : weight (core_policy p.body) ≤ 16777216

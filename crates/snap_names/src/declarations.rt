@@ -11,7 +11,7 @@ ghost use Rattle.snap_names.specs.Scopes.{HasDeclared, Declares, FieldDeclared};
 ghost use Rattle.snap_names.specs.declared.fault.NameFault.TheVariants.{NoMemory, Twice};
 
 use crate::fault::NameFault;
-use crate::scope::{Body, Part, Scope, Sense, Tally};
+use crate::scope::{Body, Part, Scope, Sense, Sizes};
 use crate::sizes::MOST_KEPT;
 use crate::values::is_address;
 use indexmap::IndexMap;
@@ -169,7 +169,7 @@ impl<'a> Scope<'a> {
     }
 
     // `array name;`
-    fn declare_array(&mut self, tally: &mut Tally, name: Span) -> Result<(), NameFault>
+    fn declare_array(&mut self, tally: &mut Sizes, name: Span) -> Result<(), NameFault>
         ensures { (at : ℕ) → Declares (array_tree at name) self.old self.new tally.old.arities.items tally.new.arities.items result }
     {
         let word = self.new_name(name)?;
@@ -193,7 +193,7 @@ impl<'a> Scope<'a> {
     }
 
     // `let name { body }`
-    fn declare_let(&mut self, tally: &mut Tally, name: Span, body: &Policy) -> Result<(), NameFault>
+    fn declare_let(&mut self, tally: &mut Sizes, name: Span, body: &Policy) -> Result<(), NameFault>
         ensures { (at : ℕ) → Declares (let_tree at name (policy_tree body.now)) self.old self.new tally.old.arities.items tally.new.arities.items result }
     {
         let word = self.new_name(name)?;
@@ -206,7 +206,7 @@ impl<'a> Scope<'a> {
     }
 
     /// A policy whose nodes are counted from 0.
-    pub(crate) fn body(&self, tally: &mut Tally, tree: &Policy) -> Result<Part, NameFault>
+    pub(crate) fn body(&self, tally: &mut Sizes, tree: &Policy) -> Result<Part, NameFault>
         ensures { Reads self.now (λ e arities. read_policy e (policy_tree tree.now) arities) (record tally.old { nodes = 0 }) tally.new result }
     {
         tally.nodes = 0;
@@ -214,7 +214,7 @@ impl<'a> Scope<'a> {
     }
 
     /// A declaration.
-    pub(crate) fn declare(&mut self, tally: &mut Tally, decl: &Decl) -> Result<(), NameFault>
+    pub(crate) fn declare(&mut self, tally: &mut Sizes, decl: &Decl) -> Result<(), NameFault>
         ensures { Declares (decl_tree decl.now) self.old self.new tally.old.arities.items tally.new.arities.items result }
     {
         match decl {

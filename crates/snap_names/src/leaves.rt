@@ -8,7 +8,7 @@ ghost use Rattle.snap_names.specs.Reading.{read_single, changed};
 ghost use Rattle.snap_names.specs.Senses.{after, place};
 
 use crate::fault::NameFault;
-use crate::scope::{Part, Scope, Tally};
+use crate::scope::{Part, Scope, Sizes};
 use snap_core::policy::Pol;
 use snap_parse::{Span, Value};
 
@@ -16,7 +16,7 @@ impl Scope<'_> {
     /// `name = value` of a field
     pub(crate) fn test_part(
         &self,
-        tally: &mut Tally,
+        tally: &mut Sizes,
         name: Span,
         value: Value,
     ) -> Result<Part, NameFault>
@@ -29,7 +29,7 @@ impl Scope<'_> {
     /// `name <- value` of a field
     pub(crate) fn set_part(
         &self,
-        tally: &mut Tally,
+        tally: &mut Sizes,
         name: Span,
         value: Value,
     ) -> Result<Part, NameFault>
@@ -42,7 +42,7 @@ impl Scope<'_> {
     /// `name places`
     pub(crate) fn bare_part(
         &self,
-        tally: &mut Tally,
+        tally: &mut Sizes,
         name: Span,
         places: &[Value],
     ) -> Result<Part, NameFault>
@@ -55,7 +55,7 @@ impl Scope<'_> {
     /// `name places = value`
     pub(crate) fn array_test_part(
         &self,
-        tally: &mut Tally,
+        tally: &mut Sizes,
         name: Span,
         places: &[Value],
         value: Value,
@@ -69,7 +69,7 @@ impl Scope<'_> {
     /// `name places <- value`
     pub(crate) fn array_set_part(
         &self,
-        tally: &mut Tally,
+        tally: &mut Sizes,
         name: Span,
         places: &[Value],
         value: Value,
@@ -83,7 +83,7 @@ impl Scope<'_> {
     /// `name places++`, or `name places--`, by the number that it adds
     pub(crate) fn step_part(
         &self,
-        tally: &mut Tally,
+        tally: &mut Sizes,
         name: Span,
         places: &[Value],
         number: u64,
@@ -97,7 +97,7 @@ impl Scope<'_> {
     /// `name places += value`
     pub(crate) fn array_add_part(
         &self,
-        tally: &mut Tally,
+        tally: &mut Sizes,
         name: Span,
         places: &[Value],
         value: Value,
@@ -111,7 +111,7 @@ impl Scope<'_> {
     /// `name places -= value`
     pub(crate) fn array_sub_part(
         &self,
-        tally: &mut Tally,
+        tally: &mut Sizes,
         name: Span,
         places: &[Value],
         value: Value,

@@ -2,7 +2,7 @@
 #![tactic(auto)]
 
 ghost use Rattle.std.specs.Prelude.{◌≡◌, ◌≢◌, IfOk, IfErr, Ok, Err};
-ghost use Rattle.snap_core.specs.Programs.{IsBounded, IsInForm};
+ghost use Rattle.snap_core.specs.Programs.{IsBounded, IsWellFormed};
 ghost use Rattle.snap_parse.specs.Tree.{source_tree};
 ghost use Rattle.snap_names.specs.Declarations.{resolved, core_program};
 ghost use Rattle.snap_names.specs.Texts.{HasTree};
@@ -25,7 +25,7 @@ mod sizes;
 mod values;
 
 pub use fault::NameFault;
-use scope::{Scope, Tally};
+use scope::{Scope, Sizes};
 use snap_core::program::Program;
 use snap_parse::Source;
 use std::alloc::Global;
@@ -45,11 +45,11 @@ use std::alloc::Global;
 pub fn resolve(alloc: Global, text: &[u8], source: &Source) -> Result<Program, NameFault>
     ensures ok { IfOk result (λ p. resolved text.now (source_tree source.now) ≡ Ok (core_program p)) }
     ensures bounded { IfOk result IsBounded }
-    ensures in_form { HasTree text.now (source_tree source.now) → IfOk result IsInForm }
+    ensures well_formed { HasTree text.now (source_tree source.now) → IfOk result IsWellFormed }
     ensures refused { IfErr result (λ f. f ≢ NoMemory → resolved text.now (source_tree source.now) ≡ Err f) }
 {
     let mut scope = Scope::ports(alloc, text)?;
-    let mut tally = Tally {
+    let mut tally = Sizes {
         arities: Vec::new(alloc),
         nodes: 0,
     };

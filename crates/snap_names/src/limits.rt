@@ -8,7 +8,7 @@ ghost use Rattle.snap_names.specs.declared.fault.NameFault.TheVariants.{NoMemory
 
 use crate::fault::NameFault;
 use crate::parts::MOST_NODES;
-use crate::scope::{Part, Scope, Tally};
+use crate::scope::{Part, Scope, Sizes};
 use crate::sizes::sum;
 use snap_core::lists::{Name, Names};
 use snap_core::policy::Pol;
@@ -61,18 +61,22 @@ fn program(
     body: Option<Pol>,
 ) -> Result<Program, NameFault>
     requires { IsFields fields.items }
-    ensures ok { IfOk result (λ p. (p.fields ≡ fields.items) × (p.vars ≡ arrays.items) × (body ≡ Some p.body)) }
+    ensures ok { IfOk result (λ p. (p.fields ≡ fields.items) × (p.arrays ≡ arrays.items) × (body ≡ Some p.body)) }
     ensures err { IfErr result (λ f. f ≡ NoMemory) }
 {
     let body = body.ok_or(NameFault::NoMemory)?;
     let fields = Fields::new(alloc, fields)?;
-    let vars = Names::new(arrays);
-    Ok(Program { fields, vars, body })
+    let arrays = Names::new(arrays);
+    Ok(Program {
+        fields,
+        arrays,
+        body,
+    })
 }
 
 impl Scope<'_> {
     // Refuses the first count that passes its limit.
-    fn within_limits(&self, tally: &Tally, body: &Part) -> Result<(), NameFault>
+    fn within_limits(&self, tally: &Sizes, body: &Part) -> Result<(), NameFault>
         ensures fields { IfOk result (λ u. count self.now.fields.items ≤ 64) }
         ensures nodes { IfOk result (λ u. tally.now.nodes ≤ 2000) }
         ensures ok { IfOk result (λ u. IsWithin self.now tally.now body.now) }
@@ -86,7 +90,7 @@ impl Scope<'_> {
     }
 
     /// The program with this body, if it is within all limits.
-    pub(crate) fn limited(self, tally: Tally, body: Part) -> Result<Program, NameFault>
+    pub(crate) fn limited(self, tally: Sizes, body: Part) -> Result<Program, NameFault>
         requires { AreFields self }
         ensures ok { IfOk result (λ program. Limits self.entry tally body (λ r. r ≡ Ok (core_program program))) }
         ensures refused { IfErr result (λ f. f ≢ NoMemory → Limits self.entry tally body (λ r. r ≡ Err f)) }

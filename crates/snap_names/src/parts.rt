@@ -7,7 +7,7 @@ ghost use Rattle.snap_names.specs.Parts.{IsPart, itself, filter_of, negated_core
 ghost use Rattle.snap_names.specs.declared.fault.NameFault.TheVariants.{NoMemory};
 
 use crate::fault::NameFault;
-use crate::scope::{Part, Tally};
+use crate::scope::{Part, Sizes};
 use crate::sizes::{nodes, product, sum, weight};
 use snap_core::policy::{Pol, Pred};
 use std::alloc::Global;
@@ -25,7 +25,7 @@ fn is_filter(policy: &Pol) -> bool
     }
 }
 
-impl Tally {
+impl Sizes {
     /// Counts core nodes.
     pub(crate) fn count(&mut self, nodes: u64)
         ensures nodes { self.new.nodes ≡ capped (self.old.nodes + nodes) }
@@ -234,7 +234,7 @@ fn whole(alloc: Global, policy: Option<Pol>) -> Result<Option<Pol>, NameFault>
 }
 
 /// `!part`
-pub(crate) fn not(alloc: Global, tally: &mut Tally, part: Part) -> Result<Part, NameFault>
+pub(crate) fn not(alloc: Global, tally: &mut Sizes, part: Part) -> Result<Part, NameFault>
     ensures part { IfOk result (λ r. (x : CoreTest) → IsPart (filter x) tally.old.nodes part → IsPart (filter (not_test x)) tally.new.nodes r) }
     ensures nodes { OnOk result (tally.new.nodes ≡ capped (tally.old.nodes + 1)) }
     ensures arities { OnOk result (tally.new.arities.items ≡ tally.old.arities.items) }
@@ -251,7 +251,7 @@ pub(crate) fn not(alloc: Global, tally: &mut Tally, part: Part) -> Result<Part, 
 }
 
 /// `atomic(part)`
-pub(crate) fn atomic(alloc: Global, tally: &mut Tally, part: Part) -> Result<Part, NameFault>
+pub(crate) fn atomic(alloc: Global, tally: &mut Sizes, part: Part) -> Result<Part, NameFault>
     ensures part { IfOk result (λ r. (p : CorePolicy) → IsPart p tally.old.nodes part → IsPart (atomic p) tally.new.nodes r) }
     ensures nodes { OnOk result (tally.new.nodes ≡ capped (tally.old.nodes + 1)) }
     ensures arities { OnOk result (tally.new.arities.items ≡ tally.old.arities.items) }
@@ -270,7 +270,7 @@ pub(crate) fn atomic(alloc: Global, tally: &mut Tally, part: Part) -> Result<Par
 /// `before & next` or `before | next`, or what stands alone
 pub(crate) fn join_tests(
     alloc: Global,
-    tally: &mut Tally,
+    tally: &mut Sizes,
     join: TestJoin,
     before: Option<Part>,
     next: Part,
@@ -296,7 +296,7 @@ pub(crate) fn join_tests(
 /// `before + next` or `before ; next`, or what stands alone
 pub(crate) fn join_policies(
     alloc: Global,
-    tally: &mut Tally,
+    tally: &mut Sizes,
     join: PolicyJoin,
     before: Option<Part>,
     next: Part,
@@ -322,7 +322,7 @@ pub(crate) fn join_policies(
 /// `if test then yes else no`
 pub(crate) fn choice(
     alloc: Global,
-    tally: &mut Tally,
+    tally: &mut Sizes,
     test: Part,
     yes: Part,
     no: Part,

@@ -5,7 +5,7 @@ ghost use Rattle.snap_names.specs.Parts.{words_of, Refuses, place_with};
 ghost use Rattle.snap_names.specs.Senses.{value_width, width, value_atoms, atoms_behind, array_of_sense, arity_seen, place};
 
 use crate::fault::NameFault;
-use crate::scope::{Scope, Sense, Tally};
+use crate::scope::{Scope, Sense, Sizes};
 use snap_core::lists::Atoms;
 use snap_core::policy::Atom;
 use snap_parse::{Span, Value};
@@ -27,7 +27,7 @@ fn array_of_sense(at: u32, sense: Sense) -> Result<usize, NameFault>
     }
 }
 
-impl Tally {
+impl Sizes {
     // Notes that an array is indexed with this many atoms at `at`.
     fn see(&mut self, array: usize, atoms: usize, at: u32) -> Result<(), NameFault>
         ensures ok { IfOk result (λ _. arity_seen self.old.arities.items array atoms at (slice_get self.old.arities.items array) ≡ Ok self.new.arities.items) }
@@ -112,7 +112,7 @@ impl Scope<'_> {
     /// `name places`
     pub(crate) fn place(
         &self,
-        tally: &mut Tally,
+        tally: &mut Sizes,
         name: Span,
         places: &[Value],
     ) -> Result<Indexed, NameFault>

@@ -6,14 +6,14 @@ ghost use Rattle.snap_names.specs.Reading.{read_policy, read_sequence, read_choi
 
 use crate::fault::NameFault;
 use crate::parts::{self, PolicyJoin, TestJoin};
-use crate::scope::{Part, Scope, Tally};
+use crate::scope::{Part, Scope, Sizes};
 use snap_core::policy::{Pol, Pred};
 use snap_parse::{Both, Choice, Either, Policy, Sequence, Single};
 
 impl Scope<'_> {
     /// The core policy of sequences joined by `+`.
     #[cycle(reader)]
-    pub(crate) fn policy(&self, tally: &mut Tally, tree: &Policy) -> Result<Part, NameFault>
+    pub(crate) fn policy(&self, tally: &mut Sizes, tree: &Policy) -> Result<Part, NameFault>
         ensures { Reads self.now (λ e arities. read_policy e (policy_tree tree.now) arities) tally.old tally.new result }
     {
         let mut parts: Option<Part> = None;
@@ -26,7 +26,7 @@ impl Scope<'_> {
     }
 
     #[cycle(reader)]
-    fn sequence(&self, tally: &mut Tally, tree: &Sequence) -> Result<Part, NameFault>
+    fn sequence(&self, tally: &mut Sizes, tree: &Sequence) -> Result<Part, NameFault>
         ensures { Reads self.now (λ e arities. read_sequence e (sequence_tree tree.now) arities) tally.old tally.new result }
     {
         let mut parts: Option<Part> = None;
@@ -39,7 +39,7 @@ impl Scope<'_> {
     }
 
     #[cycle(reader)]
-    fn choice(&self, tally: &mut Tally, tree: &Choice) -> Result<Part, NameFault>
+    fn choice(&self, tally: &mut Sizes, tree: &Choice) -> Result<Part, NameFault>
         ensures { Reads self.now (λ e arities. read_choice e (choice_tree tree.now) arities) tally.old tally.new result }
     {
         match tree {
@@ -55,7 +55,7 @@ impl Scope<'_> {
     }
 
     #[cycle(reader)]
-    fn either_operand(&self, tally: &mut Tally, tree: &Either) -> Result<Part, NameFault>
+    fn either_operand(&self, tally: &mut Sizes, tree: &Either) -> Result<Part, NameFault>
         ensures { ReadsTest self.now (λ e. either_as_test e (either_tree tree.now)) tally.old tally.new result }
     {
         let fault = self.either_fault(tree);
@@ -68,7 +68,7 @@ impl Scope<'_> {
     }
 
     #[cycle(reader)]
-    fn either(&self, tally: &mut Tally, tree: &Either) -> Result<Part, NameFault>
+    fn either(&self, tally: &mut Sizes, tree: &Either) -> Result<Part, NameFault>
         ensures { Reads self.now (λ e arities. read_either e (either_tree tree.now) arities) tally.old tally.new result }
     {
         if tree.parts.len() == 1 {
@@ -84,7 +84,7 @@ impl Scope<'_> {
     }
 
     #[cycle(reader)]
-    fn both_operand(&self, tally: &mut Tally, tree: &Both) -> Result<Part, NameFault>
+    fn both_operand(&self, tally: &mut Sizes, tree: &Both) -> Result<Part, NameFault>
         ensures { ReadsTest self.now (λ e. both_as_test e (both_tree tree.now)) tally.old tally.new result }
     {
         let fault = self.both_fault(tree);
@@ -97,7 +97,7 @@ impl Scope<'_> {
     }
 
     #[cycle(reader)]
-    fn both(&self, tally: &mut Tally, tree: &Both) -> Result<Part, NameFault>
+    fn both(&self, tally: &mut Sizes, tree: &Both) -> Result<Part, NameFault>
         ensures { Reads self.now (λ e arities. read_both e (both_tree tree.now) arities) tally.old tally.new result }
     {
         if tree.parts.len() == 1 {
@@ -113,7 +113,7 @@ impl Scope<'_> {
     }
 
     #[cycle(reader)]
-    fn single_operand(&self, tally: &mut Tally, tree: &Single) -> Result<Part, NameFault>
+    fn single_operand(&self, tally: &mut Sizes, tree: &Single) -> Result<Part, NameFault>
         ensures { ReadsTest self.now (λ e. single_as_test e (single_tree tree.now)) tally.old tally.new result }
     {
         let fault = self.single_fault(tree);
@@ -126,7 +126,7 @@ impl Scope<'_> {
     }
 
     #[cycle(reader)]
-    fn single(&self, tally: &mut Tally, tree: &Single) -> Result<Part, NameFault>
+    fn single(&self, tally: &mut Sizes, tree: &Single) -> Result<Part, NameFault>
         ensures { Reads self.now (λ e arities. read_single e (single_tree tree.now) arities) tally.old tally.new result }
     {
         match tree {

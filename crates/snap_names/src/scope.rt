@@ -48,7 +48,7 @@ pub struct Body {
 
 /// What is counted while policies are read.
 #[derive(Drop)]
-pub struct Tally {
+pub struct Sizes {
     /// The number of atoms that each array was first indexed with.
     pub arities: Vec<Option<usize>>,
     /// The core nodes of the body that is being read, kept as a part's numbers are.

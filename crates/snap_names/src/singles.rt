@@ -13,7 +13,7 @@ ghost use Rattle.snap_names.specs.declared.fault.NameFault.TheVariants.{NoMemory
 use crate::copies::copy_policy;
 use crate::fault::NameFault;
 use crate::parts::MOST_NODES;
-use crate::scope::{Body, Part, Scope, Sense, Tally};
+use crate::scope::{Body, Part, Scope, Sense, Sizes};
 use crate::values::{host, net};
 use snap_core::policy::{Atom, Op, Pol, Pred, Update};
 use snap_parse::{Span, Value};
@@ -36,7 +36,7 @@ fn copy_if(alloc: Global, room: bool, policy: &Option<Pol>) -> Result<Option<Pol
     }
 }
 
-impl Tally {
+impl Sizes {
     // A copy of the body of a `let`.
     fn used(&mut self, alloc: Global, body: &Body) -> Result<Part, NameFault>
         ensures part { IfOk result (λ part. (p : CorePolicy) → IsBody body.now p → IsPart p self.new.nodes part) }
@@ -143,7 +143,7 @@ impl Scope<'_> {
     }
 
     /// A lone name.
-    pub(crate) fn named(&self, tally: &mut Tally, name: Span) -> Result<Part, NameFault>
+    pub(crate) fn named(&self, tally: &mut Sizes, name: Span) -> Result<Part, NameFault>
         ensures { Reads self.now (λ e arities. after (named e name) (λ p. Ok (p, arities))) tally.old tally.new result }
     {
         match self.sense(name)? {
@@ -158,7 +158,7 @@ impl Scope<'_> {
     /// `name places`
     pub(crate) fn bare(
         &self,
-        tally: &mut Tally,
+        tally: &mut Sizes,
         name: Span,
         places: &[Value],
     ) -> Result<Pol, NameFault>
@@ -176,7 +176,7 @@ impl Scope<'_> {
     /// `name places = value`
     pub(crate) fn array_test(
         &self,
-        tally: &mut Tally,
+        tally: &mut Sizes,
         name: Span,
         places: &[Value],
         value: Value,
@@ -196,7 +196,7 @@ impl Scope<'_> {
     /// `name places <- value`
     pub(crate) fn array_set(
         &self,
-        tally: &mut Tally,
+        tally: &mut Sizes,
         name: Span,
         places: &[Value],
         value: Value,
@@ -216,7 +216,7 @@ impl Scope<'_> {
     /// `name places++`, or `name places--`, by the number that it adds
     pub(crate) fn array_step(
         &self,
-        tally: &mut Tally,
+        tally: &mut Sizes,
         name: Span,
         places: &[Value],
         number: u64,
@@ -235,7 +235,7 @@ impl Scope<'_> {
     /// `name places += value`
     pub(crate) fn array_add(
         &self,
-        tally: &mut Tally,
+        tally: &mut Sizes,
         name: Span,
         places: &[Value],
         value: Value,
@@ -255,7 +255,7 @@ impl Scope<'_> {
     /// `name places -= value`
     pub(crate) fn array_sub(
         &self,
-        tally: &mut Tally,
+        tally: &mut Sizes,
         name: Span,
         places: &[Value],
         value: Value,

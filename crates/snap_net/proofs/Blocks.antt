@@ -9,7 +9,7 @@ use Rattle.std.specs.List.{insert}
 use Rattle.std.proofs.lemmas.List.Concat.{flat_map-append}
 use Rattle.snap_net.specs.declared.flying.Flying.{Flying}
 use Rattle.snap_rows.specs.declared.head.Head.{Head}
-use Rattle.snap_net.specs.declared.flights.Spot.{Spot}
+use Rattle.snap_net.specs.declared.flights.Slot.{Slot}
 use Rattle.snap_net.specs.Flights.{joined, spliced}
 use Rattle.snap_net.specs.Spots.{IsSpot, number_at}
 
@@ -71,7 +71,7 @@ sent xs i x c at head within read is =
     ∙ set_split xs i (record { number = c.number; at = at; head = head; packet = c.packet }) within
     ∙ ap (λ n. take i xs ++ (record { number = c.number; at = at; head = head; packet = c.packet } ∷ drop n xs)) (let e : suc i ≡ i + 1 = omega arith in e)
 
-pub inserted : (bs : List (List Flying)) (s : Spot) (x b : List Flying) (copy : Flying) → IsSpot bs (number_at bs s) s → x ≡ get_or bs s.block x → b ≡ spliced x (s.place + 1) 0 (copy ∷ [])
+pub inserted : (bs : List (List Flying)) (s : Slot) (x b : List Flying) (copy : Flying) → IsSpot bs (number_at bs s) s → x ≡ get_or bs s.block x → b ≡ spliced x (s.place + 1) 0 (copy ∷ [])
     → joined (set bs s.block b) ≡ spliced (joined bs) (number_at bs s + 1) 0 (copy ∷ [])
 inserted bs s x b copy spot read put =
     let place = spot.place in
@@ -79,14 +79,14 @@ inserted bs s x b copy spot read put =
     ∙ block_edit bs s.block (s.place + 1) 0 (copy ∷ []) spot.block (omega (arith, place))
     ∙ ap (λ k. spliced (joined bs) k 0 (copy ∷ [])) (let e : length (joined (take s.block bs)) + (s.place + 1) ≡ length (joined (take s.block bs)) + s.place + 1 = omega arith in e)
 
-pub one_replaced : (bs : List (List Flying)) (s : Spot) (x b ys : List Flying) → IsSpot bs (number_at bs s) s → x ≡ get_or bs s.block x → b ≡ spliced x s.place 1 ys
+pub one_replaced : (bs : List (List Flying)) (s : Slot) (x b ys : List Flying) → IsSpot bs (number_at bs s) s → x ≡ get_or bs s.block x → b ≡ spliced x s.place 1 ys
     → joined (set bs s.block b) ≡ spliced (joined bs) (number_at bs s) 1 ys
 one_replaced bs s x b ys spot read put =
     let place = spot.place in
     ap (λ b. joined (set bs s.block b)) (put ∙ ap (λ l. spliced l s.place 1 ys) (same_block bs s.block x spot.block read))
     ∙ block_edit bs s.block s.place 1 ys spot.block (omega (arith, place))
 
-pub at_spot : (bs : List (List Flying)) (s : Spot) (x : List Flying) → IsSpot bs (number_at bs s) s → x ≡ get_or bs s.block x → slice_get (joined bs) (number_at bs s) ≡ slice_get x s.place
+pub at_spot : (bs : List (List Flying)) (s : Slot) (x : List Flying) → IsSpot bs (number_at bs s) s → x ≡ get_or bs s.block x → slice_get (joined bs) (number_at bs s) ≡ slice_get x s.place
 at_spot bs s x spot read = block_get bs s.block s.place spot.block spot.place ∙ ap (λ l. slice_get l s.place) (sym (same_block bs s.block x spot.block read))
 
 pub halved : (bs bs' : List (List Flying)) (i : ℕ) (x front half : List Flying) → i < length bs → x ≡ get_or bs i x → front ++ half ≡ x → bs' ≡ insert (set bs i front) (i + 1) half → joined bs' ≡ joined bs

@@ -18,7 +18,7 @@ use Rattle.snap_rows.specs.declared.head.Head.{Head}
 use Rattle.snap_rows.specs.declared.head.Head.TheVariants.{Walk, Stage, Out, Visit}
 use Rattle.snap_rows.specs.declared.head.Sent.{Sent}
 use Rattle.snap_rows.specs.Entries.{Parts, next, port_at}
-use Rattle.snap_rows.specs.Form.{IsInForm, switch_count}
+use Rattle.snap_rows.specs.Form.{IsWellFormed, switch_count}
 use Rattle.snap_rows.specs.Handles.{Handles, delivers}
 use Rattle.snap_rows.specs.Happenings.{deliveries_of, losses_of, number_of}
 use Rattle.snap_rows.specs.Home.{AtHome}
@@ -36,10 +36,10 @@ use Rattle.snap_rows.proofs.Stepping.{steps_plain}
 use Rattle.snap_net.specs.declared.flying.Flying.{Flying}
 use Rattle.snap_net.specs.Moves.{copies_in_flight, flights}
 use Rattle.snap_net.specs.Passing.{Comes, Goes, GoOut, none, next_one, IsHeard, IsPlain, IsTold, PartsInto, Passes, StepsAt, StepsSo, crossings, entering, held as holding, reached, FliesTo, PassesThrough}
-use Rattle.snap_net.specs.Shown.{Held, Shows, flown, store_of}
+use Rattle.snap_net.specs.Shown.{NetView, Represents, flown, store_of}
 use Rattle.snap_net.specs.Travels.{Crosses, ends, goes, Hears, WayOf, HearsWay, HearsOut}
 use Rattle.snap_net.proofs.Steps.{Left, done_fresh, has_stepped, with_fresh}
-use Rattle.snap_net.proofs.Told.{calm-then, crossings-append, packets_of-append}
+use Rattle.snap_net.proofs.Told.{sequential-then, crossings-append, packets_of-append}
 use Rattle.snap_rows.proofs.Happenings.{deliveries_of-append, losses_of-append}
 
 -- ---- steps of the first copy
@@ -51,7 +51,7 @@ goes_both t a b c hs gs g h = record {
   events = g.events ++ h.events;
   no_packets = packets_of-append g.events h.events ∙ ap₂ (λ x y. x ++ y) g.no_packets h.no_packets;
   first = All-append StepsFirst g.events h.events g.first h.first;
-  run = calm-then t c h.events gs g.run h.run;
+  run = sequential-then t c h.events gs g.run h.run;
 }
 
 goes_once : (t : Tables) (a b : Net) (x : Happening) → Leads t a (Step 0) b (x ∷ []) → Goes t a (x ∷ []) b
@@ -116,7 +116,7 @@ abbrev Gone : Tables → ℕ → Head → List ℕ → (w x : ℕ) → List Happ
 Gone t i h k w x hs = (ws : List ℕ) × Way t x w ws × Crosses i h k w ws hs
 
 -- by steps of the first copy to where its head sends it
-comes_far : (t : Tables) → IsValid t → IsInForm t → (n : ℕ) (stores : List Kept) (d : Flying) (xs : List Flying) (x : ℕ) → d.at < switch_count t → aim_of t d.head ≡ Some x
+comes_far : (t : Tables) → IsValid t → IsWellFormed t → (n : ℕ) (stores : List Kept) (d : Flying) (xs : List Flying) (x : ℕ) → d.at < switch_count t → aim_of t d.head ≡ Some x
     → Comes t n stores (d ∷ xs) stores (record d { at = x } ∷ xs) (Gone t d.number d.head d.packet d.at x)
 comes_far t valid form n stores d xs x low aim =
     let way = way_to t (valid Loop) form d.at x low (aim_below t form d.head x aim) in
@@ -152,7 +152,7 @@ comes_next t n old new d x h way made =
     (λ hs happens. (to ∷ [], way (to ∷ []) refl, subst (Crosses d.number h d.packet d.at (to ∷ [])) (append-nil hs) (crosses_first t d to h hs happens [] [] ends)))
 
 -- a head that says where it goes is followed there
-comes_all : (t : Tables) → IsValid t → IsInForm t → (n : ℕ) (old new : List Kept) (d : Flying) (x : ℕ) (h : Head) → d.at < switch_count t → aim_of t h ≡ Some x → x ≢ d.at → ((ws : List ℕ) → Way t x d.at ws → WayOf t h d.at x ws)
+comes_all : (t : Tables) → IsValid t → IsWellFormed t → (n : ℕ) (old new : List Kept) (d : Flying) (x : ℕ) (h : Head) → d.at < switch_count t → aim_of t h ≡ Some x → x ≢ d.at → ((ws : List ℕ) → Way t x d.at ws → WayOf t h d.at x ws)
     → StepsSo t d.at d.packet d.head old new (fate.Seek x h) → Comes t n old (d ∷ []) new (there d x h ∷ []) (OnWay t d.number h d.packet d.at x)
 comes_all t valid form n old new d x h low aim away way made =
     let to = next t d.at x in
@@ -161,7 +161,7 @@ comes_all t valid form n old new d x h low aim away way made =
     (comes_far t valid form n new (there d to h) [] x (next_below t form d.at x low) aim)
     (λ hs gs happens gone. (to ∷ gone.0, way (to ∷ gone.0) (on (λ e. away (sym e)) gone.1), crosses_first t d to h hs happens gone.0 gs gone.2))
 
-pub comes_sought : (t : Tables) → IsValid t → IsInForm t → (n : ℕ) (old new : List Kept) (d : Flying) (x : ℕ) (h : Head) → d.at < switch_count t → AimsAt t d.at h x → StepsSo t d.at d.packet d.head old new (fate.Seek x h)
+pub comes_sought : (t : Tables) → IsValid t → IsWellFormed t → (n : ℕ) (old new : List Kept) (d : Flying) (x : ℕ) (h : Head) → d.at < switch_count t → AimsAt t d.at h x → StepsSo t d.at d.packet d.head old new (fate.Seek x h)
     → Comes t n old (d ∷ []) new (there d (reached t d.at x h) h ∷ []) (OnWay t d.number h d.packet d.at x)
 comes_sought t valid form n old new d x (Walk m) low aims made = comes_next t n old new d x (Walk m) (λ ws e. e) made
 comes_sought t valid form n old new d x (Stage m i) low aims made = comes_next t n old new d x (Stage m i) (λ ws e. e) made
@@ -169,7 +169,7 @@ comes_sought t valid form n old new d x (Out p) low aims made = comes_all t vali
 comes_sought t valid form n old new d x (Visit r m) low aims made = comes_all t valid form n old new d x (Visit r m) low aims.0 aims.1 (λ ws way. way) made
 
 -- the switch that is reached is one, and the head is at home there
-pub reached_home : (t : Tables) → IsInForm t → (w x : ℕ) (h : Head) → w < switch_count t → x < switch_count t → AtHome t (next t w x) h → (reached t w x h < switch_count t) × AtHome t (reached t w x h) h
+pub reached_home : (t : Tables) → IsWellFormed t → (w x : ℕ) (h : Head) → w < switch_count t → x < switch_count t → AtHome t (next t w x) h → (reached t w x h < switch_count t) × AtHome t (reached t w x h) h
 reached_home t form w x (Walk m) low below home = (next_below t form w x low, home)
 reached_home t form w x (Stage m i) low below home = (next_below t form w x low, home)
 reached_home t form w x (Out p) low below home = (below, home)
@@ -182,7 +182,7 @@ no_heavier t w x (Out p) aims = aim_lighter t (Out p) x (next t w x) aims.0
 no_heavier t w x (Visit r m) aims = aim_lighter t (Visit r m) x (next t w x) aims.0
 
 -- fewer steps are left there
-pub sought_lighter : (t : Tables) → IsValid t → IsInForm t → (old new : List Kept) (w x : ℕ) (k : List ℕ) (h h' : Head) → w < switch_count t → AtHome t w h → AimsAt t w h' x → StepsSo t w k h old new (fate.Seek x h') → weight t (reached t w x h') h' < weight t w h
+pub sought_lighter : (t : Tables) → IsValid t → IsWellFormed t → (old new : List Kept) (w x : ℕ) (k : List ℕ) (h h' : Head) → w < switch_count t → AtHome t w h → AimsAt t w h' x → StepsSo t w k h old new (fate.Seek x h') → weight t (reached t w x h') h' < weight t w h
 sought_lighter t valid form old new w x k h h' low home aims made =
     let step = steps_towards t w k h old new x h' made in
     let less : weight t (next t w x) h' < weight t w h = lighter t valid form w low k (store_of old w) h step.arrays (Forward (next t w x) h') home step.handles in
@@ -248,7 +248,7 @@ module _ {V : Type 0} (saw : V → List Happening → V → Type 0) (i : ℕ) wh
 
 -- ---- what goes out
 -- a copy on its way to its port is delivered there
-comes_out : (t : Tables) → IsValid t → IsInForm t → (n : ℕ) (stores : List Kept) (i w : ℕ) (x : Sent) (xs : List Flying) (v : ℕ) → w < switch_count t → port_at t x.port ≡ Some v
+comes_out : (t : Tables) → IsValid t → IsWellFormed t → (n : ℕ) (stores : List Kept) (i w : ℕ) (x : Sent) (xs : List Flying) (v : ℕ) → w < switch_count t → port_at t x.port ≡ Some v
     → Comes t n stores (record { number = i; at = w; head = Out x.port; packet = x.packet } ∷ xs) stores xs (λ hs. (gs : List Happening) × Gone t i (Out x.port) x.packet w v gs × IsTold i (x.packet ∷ []) 0 hs × (crossings hs ≡ gs))
 comes_out t valid form n stores i w x xs v low at =
     let d : Flying = record { number = i; at = w; head = Out x.port; packet = x.packet } in
@@ -275,7 +275,7 @@ comes_out t valid form n stores i w x xs v low at =
 abbrev GoneOut : Tables → (i w : ℕ) → List Sent → List Happening → Type 0
 GoneOut t i w copies hs = (gs : List Happening) × GoOut t i w copies gs × IsTold i (map (λ (x : Sent). x.packet) copies) 0 hs × (crossings hs ≡ gs)
 
-comes_all_out : (t : Tables) → IsValid t → IsInForm t → (n : ℕ) (stores : List Kept) (i w : ℕ) (k : List ℕ) (copies : List Sent) → w < switch_count t → All (IsSent t k) copies → Comes t n stores (copies_in_flight i w copies) stores [] (GoneOut t i w copies)
+comes_all_out : (t : Tables) → IsValid t → IsWellFormed t → (n : ℕ) (stores : List Kept) (i w : ℕ) (k : List ℕ) (copies : List Sent) → w < switch_count t → All (IsSent t k) copies → Comes t n stores (copies_in_flight i w copies) stores [] (GoneOut t i w copies)
 comes_all_out t valid form n stores i w k [] low sent = comes_none t n stores [] (GoneOut t i w []) ([], none, told_none i, refl)
 comes_all_out t valid form n stores i w k (x ∷ xs) low sent = by (port_at t x.port) refl (All-head (IsSent t k) x xs sent).port (comes_all_out t valid form n stores i w k xs low (All-tail (IsSent t k) x xs sent))
   where
@@ -331,16 +331,16 @@ rests_shown [] e = refl
 rests_shown (c ∷ cs) e = absurd (cc)
 
 -- a packet comes in, and its copy comes to its end
-pub passes : (v : Held) → v.flying ≡ [] → (p w : ℕ) (k : List ℕ) → port_at v.tables p ≡ Some w → slice_index k 0 ≡ p → (stores : List Kept) (told : List Happening → Type 0)
+pub passes : (v : NetView) → v.flying ≡ [] → (p w : ℕ) (k : List ℕ) → port_at v.tables p ≡ Some w → slice_index k 0 ≡ p → (stores : List Kept) (told : List Happening → Type 0)
     → Comes v.tables (v.injected + 1) v.stores (entering v.injected w k ∷ []) stores [] told → Passes p k v (record v { stores = stores; injected = v.injected + 1 }) told
 passes v none' p w k at first stores told comes s shows =
     let t = v.tables in
     let d = done_fresh v p w k at first s shows in
-    let mid : Held = holding t (v.injected + 1) v.stores (entering v.injected w k ∷ []) in
+    let mid : NetView = holding t (v.injected + 1) v.stores (entering v.injected w k ∷ []) in
     let same : with_fresh v w k ≡ mid = ap (λ (l : List Flying). record v { injected = v.injected + 1; flying = l ++ entering v.injected w k ∷ [] }) none' in
-    let c = comes d.0 (subst (λ o. Shows o d.0) same d.3) in
+    let c = comes d.0 (subst (λ o. Represents o d.0) same d.3) in
     let still : s.flying ≡ [] = rests_shown s.flying (shows.flying ∙ none') in
-    let after : Held = record v { stores = stores; injected = v.injected + 1 } in
+    let after : NetView = record v { stores = stores; injected = v.injected + 1 } in
     record {
       state = c.0;
       events = c.2.events;
@@ -350,11 +350,11 @@ passes v none' p w k at first stores told comes s shows =
       run = injects still d.2 c.2.run;
       rests = rests_shown c.0.flying c.3.flying;
       injected = c.3.injected ∙ ap (λ n. n + 1) (sym shows.injected);
-      shows = subst (λ (l : List Flying). Shows (record v { stores = stores; injected = v.injected + 1; flying = l }) c.0) (sym none') c.3;
+      shows = subst (λ (l : List Flying). Represents (record v { stores = stores; injected = v.injected + 1; flying = l }) c.0) (sym none') c.3;
       tells = subst (λ l. told (l ++ c.1)) (sym d.4) c.4;
     }
 
-module _ {V : Type 0} (saw : V → List Happening → V → Type 0) (t : Tables) (valid : IsValid t) (form : IsInForm t) where
+module _ {V : Type 0} (saw : V → List Happening → V → Type 0) (t : Tables) (valid : IsValid t) (form : IsWellFormed t) where
   -- the copy is parted
   pub comes_parted : (old new : List Kept) (i v w : ℕ) (k : List ℕ) (outs : Bor (List Parts)) (a b c : V) (sent : List (List ℕ)) (lost : ℕ) → w < switch_count t
       → FliesTo saw t (entering i v k) a b old new w (fate.Fork outs) → PartsInto t i w outs.now k saw b c sent lost → PassesThrough t i v k old new (IsHeard saw i a c sent lost)

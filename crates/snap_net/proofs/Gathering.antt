@@ -13,12 +13,12 @@ use Rattle.snap_rows.specs.declared.tables.ArrayAt.{ArrayAt}
 use Rattle.snap_rows.specs.declared.tables.Tables.{Tables}
 use Rattle.snap_rows.specs.Entries.{owner_of}
 use Rattle.snap_rows.specs.Form.{array_count}
-use Rattle.snap_rows.specs.Network.{Net, start, whole}
+use Rattle.snap_rows.specs.Network.{Net, start, global_store}
 use Rattle.snap_net.specs.Moves.{Changed}
-use Rattle.snap_net.specs.Shown.{Held, Holds, Shows, gathered, store_of}
+use Rattle.snap_net.specs.Shown.{NetView, Holds, Represents, gathered, store_of}
 
 -- ---- the whole store
-pub gathered-whole : (v : Held) (s : Net) → Shows v s → gathered v.tables v.stores ≡ whole v.tables s
+pub gathered-whole : (v : NetView) (s : Net) → Represents v s → gathered v.tables v.stores ≡ global_store v.tables s
 gathered-whole v s shows = λ i p. by p (owner_of v.tables p.var) i
   where
     by : (p : Place) (o : Option ℕ) → unwrap_or (option_map (λ w. store_of v.stores w p) o) 0 ≡ unwrap_or (option_map (λ w. s.stores w p) o) 0
@@ -113,8 +113,8 @@ module _ (from to : Tables) (first old old' new new' : List Kept) (n here there 
           ∙ sym (other_array new new' there n (store_of old here) put w p e)
 
 -- the network over the new tables, once all have moved
-pub rehoused : (to : Tables) (old new : Held) → Holds to new.stores (gathered old.tables old.stores) → new.injected ≡ old.injected → new.flying ≡ [] → (s : Net) → Shows old s
-    → Shows new (record (start to (whole old.tables s)) { injected = s.injected })
+pub rehoused : (to : Tables) (old new : NetView) → Holds to new.stores (gathered old.tables old.stores) → new.injected ≡ old.injected → new.flying ≡ [] → (s : Net) → Represents old s
+    → Represents new (record (start to (global_store old.tables s)) { injected = s.injected })
 rehoused to old new holds same none s shows = record {
   stores = λ w. ap (λ (m : Arrays). (start to m).stores w) (sym (gathered-whole old s shows)) ∙ holds w;
   injected = shows.injected ∙ sym same;

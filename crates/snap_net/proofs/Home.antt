@@ -6,7 +6,7 @@ use Rattle.snap_core.specs.declared.place.Place.{Place}
 use Rattle.snap_core.specs.Arrays.{Arrays}
 use Rattle.snap_rows.specs.declared.tables.Tables.{Tables}
 use Rattle.snap_rows.specs.Entries.{owner_of}
-use Rattle.snap_rows.specs.Form.{IsInForm}
+use Rattle.snap_rows.specs.Form.{IsWellFormed}
 use Rattle.snap_rows.specs.Rules.{IsValid}
 use Rattle.snap_rows.specs.Network.{Net, Event, Happening, Leads, inject, step, start}
 use Rattle.snap_rows.proofs.Runs.{runs-keep}
@@ -24,7 +24,7 @@ start_own t m w p = of (owner_of t p.var)
         by true e = absurd (other (ap Some (eqb-true x w e)))
         by false e = refl
 
-leads_own : (t : Tables) → IsValid t → IsInForm t → (s s' : Net) (e : Event) (hs : List Happening) → Leads t s e s' hs → HoldsOwnAlone t s → HoldsOwnAlone t s'
+leads_own : (t : Tables) → IsValid t → IsWellFormed t → (s s' : Net) (e : Event) (hs : List Happening) → Leads t s e s' hs → HoldsOwnAlone t s → HoldsOwnAlone t s'
 leads_own t valid form s s' e hs (inject at first) own = own
 leads_own t valid form s s' e hs (step {i = i} {c = c} {m = m} {a = a} is handles) own = λ w p other. by w p other (w == c.at) refl
   where

@@ -1,3 +1,5 @@
+pub mod Bytes
+pub mod OneFrame
 pub mod Blocks
 pub mod Splices
 pub mod Steps

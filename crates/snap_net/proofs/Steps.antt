@@ -20,7 +20,7 @@ use Rattle.snap_rows.specs.declared.tables.Rule.TheVariants.{Missing}
 use Rattle.snap_rows.specs.declared.tables.Spot.TheVariants as spot
 use Rattle.snap_core.specs.Ports.{port_in}
 use Rattle.snap_rows.specs.Entries.{next, port_at, row_at}
-use Rattle.snap_rows.specs.Form.{IsInForm, IsPortInForm, comps, switch_count}
+use Rattle.snap_rows.specs.Form.{IsWellFormed, IsPortWellFormed, comps, switch_count}
 use Rattle.snap_rows.specs.Home.{AtHome}
 use Rattle.snap_rows.specs.Handles.{Handles, forked}
 use Rattle.snap_rows.specs.Rules.{PortKeeps}
@@ -30,10 +30,10 @@ use Rattle.snap_rows.specs.Network.{Copy, Net, Inject, Step, Happening, Crossed,
 use Rattle.snap_rows.proofs.Rows.{All-get}
 use Rattle.snap_rows.proofs.Arrives.{fork_arrives, next_below}
 use Rattle.snap_rows.proofs.Stepping.{steps_plain}
-use Rattle.snap_head.specs.Frames.{frame}
+use Rattle.snap_net.specs.Frames.{frame}
 use Rattle.snap_net.specs.declared.flying.Flying.{Flying}
 use Rattle.snap_net.specs.Flights.{spliced}
-use Rattle.snap_net.specs.Shown.{HasFrame, Held, IsHeld, IsUnheld, Shows, IsDone, Nothing, SameArrays, StandsThere, TellsMoved, frame_of, frame_with, store_of, flown, moving}
+use Rattle.snap_net.specs.Shown.{HasFrame, NetView, IsNetView, IsUnheld, Represents, Simulates, Nothing, SameArrays, StandsThere, TellsMoved, frame_of, frame_with, store_of, flown, moving}
 use Rattle.snap_net.specs.Moves.{AreHome, HasGone, HasMade, HasStepped, Changed, HasUpdated, IsFrameBy, MakesStep, StepsAt, flights, copies_in_flight, left_by, moved_of, told_by}
 use Rattle.snap_net.proofs.Splices.{there_now}
 use Rattle.snap_net.specs.declared.happened.Moved.{Moved}
@@ -63,18 +63,18 @@ port_entry (q ∷ ps) p w e = by (q.port == p) e (port_entry ps p w)
 abbrev pub fresh : ℕ → ℕ → List ℕ → Flying
 fresh number w k = record { number = number; at = w; head = Walk 0; packet = k }
 
-abbrev pub with_fresh : Held → ℕ → List ℕ → Held
+abbrev pub with_fresh : NetView → ℕ → List ℕ → NetView
 with_fresh v w k = record v { injected = v.injected + 1; flying = v.flying ++ fresh v.injected w k ∷ [] }
 
 -- a copy begins its walk at the switch of a port
-pub fresh_home : (v : Held) → IsHeld v → (p w : ℕ) → port_at v.tables p ≡ Some w → (w < switch_count v.tables) × AtHome v.tables w (Walk 0)
+pub fresh_home : (v : NetView) → IsNetView v → (p w : ℕ) → port_at v.tables p ≡ Some w → (w < switch_count v.tables) × AtHome v.tables w (Walk 0)
 fresh_home v held p w at =
     let i = port_entry v.tables.ports p w at in
-    let place : w < switch_count v.tables = subst (λ w. w < switch_count v.tables) i.at (All-get (IsPortInForm v.tables) v.tables.ports i.place i.entry held.form.ports i.is).at in
+    let place : w < switch_count v.tables = subst (λ w. w < switch_count v.tables) i.at (All-get (IsPortWellFormed v.tables) v.tables.ports i.place i.entry held.form.ports i.is).at in
     let home : IsSome (row_at v.tables w 0) = subst (λ w. IsSome (row_at v.tables w 0)) i.at (subst (λ o. IfSome o (PortKeeps v.tables Missing)) i.is (held.valid Missing (spot.Port i.place))) in
     (place, home)
 
-pub held_fresh : (v : Held) → IsHeld v → (p w : ℕ) (k : List ℕ) → port_at v.tables p ≡ Some w → length k ≡ comps v.tables → IsHeld (with_fresh v w k)
+pub held_fresh : (v : NetView) → IsNetView v → (p w : ℕ) (k : List ℕ) → port_at v.tables p ≡ Some w → length k ≡ comps v.tables → IsNetView (with_fresh v w k)
 held_fresh v held p w k at long =
     let home = fresh_home v held p w at in
     let x = fresh v.injected w k in
@@ -87,7 +87,7 @@ held_fresh v held p w k at long =
       homes = All-push (λ (c : Flying). AtHome v.tables c.at c.head) v.flying x held.homes home.1;
     }
 
-pub done_fresh : (v : Held) (p w : ℕ) (k : List ℕ) → port_at v.tables p ≡ Some w → slice_index k 0 ≡ p → IsDone v (Inject p k) (with_fresh v w k) Nothing
+pub done_fresh : (v : NetView) (p w : ℕ) (k : List ℕ) → port_at v.tables p ≡ Some w → slice_index k 0 ≡ p → Simulates v (Inject p k) (with_fresh v w k) Nothing
 done_fresh v p w k at first s shows =
     let c : Copy = record { number = s.injected; at = w; head = Walk 0; packet = k; hops = 0; steps = 0 } in (
       injected s w p k,
@@ -116,14 +116,14 @@ flown_moved c (Deliver port) = refl
 flown_moved c (Fork copies lost) = moved_flights c copies
 
 -- what a step leaves
-pub record Left (v new : Held) (k : ℕ) (c : Flying) (m : Arrays) (a : Action) : Type 0 where
+pub record Left (v new : NetView) (k : ℕ) (c : Flying) (m : Arrays) (a : Action) : Type 0 where
   pub is : slice_get v.flying k ≡ Some c
   pub tables : new.tables ≡ v.tables
   pub stores : Changed v.stores new.stores c.at m
   pub injected : new.injected ≡ v.injected
   pub flying : new.flying ≡ take k v.flying ++ (flights c a ++ drop (k + 1) v.flying)
 
-stores_shown : (v new : Held) (s : Net) (c : Copy) (m : Arrays) → Shows v s → Changed v.stores new.stores c.at m → (w : ℕ) → (if w == c.at then m else s.stores w) ≡ store_of new.stores w
+stores_shown : (v new : NetView) (s : Net) (c : Copy) (m : Arrays) → Represents v s → Changed v.stores new.stores c.at m → (w : ℕ) → (if w == c.at then m else s.stores w) ≡ store_of new.stores w
 stores_shown v new s c m shows changed w = by (w == c.at) refl
   where
     by : (b : Bool) → (w == c.at) ≡ b → (if b then m else s.stores w) ≡ store_of new.stores w
@@ -131,9 +131,9 @@ stores_shown v new s c m shows changed w = by (w == c.at) refl
     by false e = shows.stores w ∙ sym (changed.others w (λ same. false≢true (sym e ∙ eq-eqb w c.at same)))
 
 -- with the arrays m at the switch of copy k, and copies xs in its place
-pub shows_replaced : (v new : Held) (s : Net) (k : ℕ) (c : Copy) (m : Arrays) (xs : List Copy) → Shows v s → Changed v.stores new.stores c.at m → new.injected ≡ v.injected
+pub shows_replaced : (v new : NetView) (s : Net) (k : ℕ) (c : Copy) (m : Arrays) (xs : List Copy) → Represents v s → Changed v.stores new.stores c.at m → new.injected ≡ v.injected
     → new.flying ≡ take k v.flying ++ (map flown xs ++ drop (k + 1) v.flying)
-    → Shows new (record s { stores = λ w. if w == c.at then m else s.stores w; flying = take k s.flying ++ (xs ++ drop (k + 1) s.flying) })
+    → Represents new (record s { stores = λ w. if w == c.at then m else s.stores w; flying = take k s.flying ++ (xs ++ drop (k + 1) s.flying) })
 shows_replaced v new s k c m xs shows changed injected flying = record {
   stores = stores_shown v new s c m shows changed;
   injected = shows.injected ∙ sym injected;
@@ -146,8 +146,8 @@ shows_replaced v new s k c m xs shows changed injected flying = record {
       ∙ sym flying;
 }
 
-left_copy : (v new : Held) (k : ℕ) (c : Copy) (m : Arrays) (a : Action) → Left v new k (flown c) m a → Handles v.tables c.at c.packet (store_of v.stores c.at) c.head m a
-    → (s : Net) → Shows v s → slice_get s.flying k ≡ Some c → HasStepped v k a new s
+left_copy : (v new : NetView) (k : ℕ) (c : Copy) (m : Arrays) (a : Action) → Left v new k (flown c) m a → Handles v.tables c.at c.packet (store_of v.stores c.at) c.head m a
+    → (s : Net) → Represents v s → slice_get s.flying k ≡ Some c → HasStepped v k a new s
 left_copy v new k c m a left handles s shows at = record {
   state = stepped s k c m a;
   copy = c;
@@ -157,10 +157,10 @@ left_copy v new k c m a left handles s shows at = record {
 }
 
 -- the copy of the state that the network shows
-pub copy_shown : (v : Held) (s : Net) (k : ℕ) (c : Flying) → Shows v s → slice_get v.flying k ≡ Some c → (x : Copy) × (slice_get s.flying k ≡ Some x) × (flown x ≡ c)
+pub copy_shown : (v : NetView) (s : Net) (k : ℕ) (c : Flying) → Represents v s → slice_get v.flying k ≡ Some c → (x : Copy) × (slice_get s.flying k ≡ Some x) × (flown x ≡ c)
 copy_shown v s k c shows is = unmapped (slice_get s.flying k) c (sym (slice_get-map flown s.flying k) ∙ ap (λ l. slice_get l k) shows.flying ∙ is)
 
-pub has_stepped : (v new : Held) (k : ℕ) (c : Flying) (m : Arrays) (a : Action) → Left v new k c m a → Handles v.tables c.at c.packet (store_of v.stores c.at) c.head m a → (s : Net) → Shows v s → HasStepped v k a new s
+pub has_stepped : (v new : NetView) (k : ℕ) (c : Flying) (m : Arrays) (a : Action) → Left v new k c m a → Handles v.tables c.at c.packet (store_of v.stores c.at) c.head m a → (s : Net) → Represents v s → HasStepped v k a new s
 has_stepped v new k c m a left handles s shows =
     let x = copy_shown v s k c shows left.is in
     left_copy v new k x.0 m a (subst (λ c. Left v new k c m a) (sym x.2) left) (subst (λ (c : Flying). Handles v.tables c.at c.packet (store_of v.stores c.at) c.head m a) (sym x.2) handles) s shows x.1
@@ -188,8 +188,8 @@ pub three : (P : Flying → Type 0) (k : ℕ) (fl xs : List Flying) → All P fl
 three P k fl xs all some = All-append P (take k fl) (xs ++ drop (k + 1) fl) (All-take P k fl all) (All-append P xs (drop (k + 1) fl) some (All-drop P (k + 1) fl all))
 
 -- what a step that was refused leaves
-pub held_same : (v : Held) (stores : List Kept) (flying : List Flying) → IsHeld v → flying ≡ v.flying → SameArrays v.stores stores → IsHeld (record v { stores = stores; flying = flying })
-held_same v stores flying held same arrays = subst (λ fl. IsHeld (record v { stores = stores; flying = fl })) (sym same) (record {
+pub held_same : (v : NetView) (stores : List Kept) (flying : List Flying) → IsNetView v → flying ≡ v.flying → SameArrays v.stores stores → IsNetView (record v { stores = stores; flying = flying })
+held_same v stores flying held same arrays = subst (λ fl. IsNetView (record v { stores = stores; flying = fl })) (sym same) (record {
   form = held.form;
   valid = held.valid;
   stores = arrays.count ∙ held.stores;
@@ -206,7 +206,7 @@ moving_of c (Fork copies lost) = refl
 
 -- ---- a step as far as its visits are admitted
 -- what becomes of a copy is in its place again
-left_home : (t : Tables) → IsInForm t → (c : Flying) (f : Fate) → c.at < switch_count t → length c.packet ≡ comps t → AtHome t c.at c.head → FateArrives t c.at f
+left_home : (t : Tables) → IsWellFormed t → (c : Flying) (f : Fate) → c.at < switch_count t → length c.packet ≡ comps t → AtHome t c.at c.head → FateArrives t c.at f
     → All (λ (x : Flying). x.at < switch_count t) (left_by t c f) × All (λ (x : Flying). length x.packet ≡ comps t) (left_by t c f) × All (λ (x : Flying). AtHome t x.at x.head) (left_by t c f)
 left_home t form c (fate.Seek x h) below long home arrives = flights_held t c (Forward (next t c.at x) h) below long (next_below t form c.at x below, arrives)
 left_home t form c (fate.Deliver port) below long home arrives = flights_held t c (Deliver port) below long tt
@@ -215,7 +215,7 @@ left_home t form c (fate.Stay r n) below long home arrives = flights_held t c (F
 left_home t form c (fate.Wait r) below long home arrives = flights_held t c (Forward c.at c.head) below long (below, home)
 
 -- and so are all
-pub home_left : (t : Tables) → IsInForm t → (from to : List Flying) (k : ℕ) (c : Flying) (f : Fate) → slice_get from k ≡ Some c → All (λ (x : Flying). x.at < switch_count t) from → All (λ (x : Flying). length x.packet ≡ comps t) from
+pub home_left : (t : Tables) → IsWellFormed t → (from to : List Flying) (k : ℕ) (c : Flying) (f : Fate) → slice_get from k ≡ Some c → All (λ (x : Flying). x.at < switch_count t) from → All (λ (x : Flying). length x.packet ≡ comps t) from
     → All (λ (x : Flying). AtHome t x.at x.head) from → FateArrives t c.at f → to ≡ spliced from k 1 (left_by t c f) → AreHome t to
 home_left t form from to k c f is places packets homes arrives gone =
     let at : c.at < switch_count t = All-get (λ (x : Flying). x.at < switch_count t) from k c places is in
@@ -256,8 +256,8 @@ acts_tell t c (fate.Stay r n) a acts = absurd acts
 acts_tell t c (fate.Wait r) a acts = absurd acts
 
 -- a step where all visits are admitted is one without order
-pub done_plain : (may : ℕ → Bool) (v new : Held) (k : ℕ) (c : Flying) (moved : Moved) → ((j : ℕ) → may j ≡ true) → slice_get v.flying k ≡ Some c → new.tables ≡ v.tables → new.injected ≡ v.injected → StepsAt may v k new moved
-    → IsDone v (Step k) new (TellsMoved moved)
+pub done_plain : (may : ℕ → Bool) (v new : NetView) (k : ℕ) (c : Flying) (moved : Moved) → ((j : ℕ) → may j ≡ true) → slice_get v.flying k ≡ Some c → new.tables ≡ v.tables → new.injected ≡ v.injected → StepsAt may v k new moved
+    → Simulates v (Step k) new (TellsMoved moved)
 done_plain may v new k c moved all is tables injected made s shows =
     let t = v.tables in
     let h = made c is in

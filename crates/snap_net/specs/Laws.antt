@@ -4,7 +4,7 @@ use Rattle.snap_core.specs.declared.place.Place.{Place}
 use Rattle.snap_core.specs.Arrays.{Arrays}
 use Rattle.snap_rows.specs.declared.tables.Tables.{Tables}
 use Rattle.snap_rows.specs.Entries.{owner_of}
-use Rattle.snap_rows.specs.Form.{IsInForm}
+use Rattle.snap_rows.specs.Form.{IsWellFormed}
 use Rattle.snap_rows.specs.Rules.{IsValid}
 use Rattle.snap_rows.specs.Network.{Net, Event, Happening, Run}
 
@@ -14,5 +14,5 @@ HoldsOwnAlone t s = (w : ℕ) (p : Place) → owner_of t p.var ≢ Some w → s.
 
 -- after every list of events that is so
 abbrev pub ArraysStayHome : Type 0
-ArraysStayHome = (t : Tables) → IsValid t → IsInForm t
+ArraysStayHome = (t : Tables) → IsValid t → IsWellFormed t
     → (m : Arrays) (es : List Event) (s : Net) (hs : List Happening) → Run t m es s hs → HoldsOwnAlone t s

@@ -1,3 +1,6 @@
+pub mod Frames
+pub mod Faults
+pub mod FrameLaws
 pub mod Flights
 pub mod Spots
 pub mod Shown

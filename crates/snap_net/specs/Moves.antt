@@ -16,12 +16,12 @@ use Rattle.snap_rows.specs.Handles.{forked}
 use Rattle.snap_rows.specs.Home.{AtHome}
 use Rattle.snap_rows.specs.Stepping.{Steps}
 use Rattle.snap_rows.specs.Network.{Copy, Net, Step, Leads, happening}
-use Rattle.snap_head.specs.Frames.{frame}
+use Rattle.snap_net.specs.Frames.{frame}
 use Rattle.snap_net.specs.declared.flying.Flying.{Flying}
 use Rattle.snap_net.specs.declared.happened.Moved.{Moved}
 use Rattle.snap_net.specs.declared.happened.Moved.TheVariants as bare
 use Rattle.snap_net.specs.Flights.{spliced}
-use Rattle.snap_net.specs.Shown.{Held, Shows, store_of, flown}
+use Rattle.snap_net.specs.Shown.{NetView, Represents, store_of, flown}
 
 -- the arrays of one switch are m, and those of the others are the same
 pub record Changed (old new : List Kept) (w : ℕ) (m : Arrays) : Type 0 where
@@ -58,12 +58,12 @@ abbrev pub HasUpdated : List Kept → List Flying → ℕ → List Update → Li
 HasUpdated old flying k us new = (c : Flying) → slice_get flying k ≡ Some c → Changed old new c.at (updates (store_of old c.at) us c.packet)
 
 -- copy k has stepped
-pub record HasStepped (old : Held) (k : ℕ) (a : Action) (new : Held) (s : Net) : Type 0 where
+pub record HasStepped (old : NetView) (k : ℕ) (a : Action) (new : NetView) (s : Net) : Type 0 where
   pub state : Net
   pub copy : Copy
   pub is : slice_get old.flying k ≡ Some (flown copy)
   pub leads : Leads old.tables s (Step k) state (happening copy a ∷ [])
-  pub shows : Shows new state
+  pub shows : Represents new state
 
 -- ---- a step as far as its visits are admitted
 -- what stands in the place of a copy of which this becomes
@@ -110,7 +110,7 @@ abbrev pub MakesStep : (may : ℕ → Bool) → Tables → ℕ → (old : List K
 MakesStep may t k old from new to moved = (c : Flying) → slice_get from k ≡ Some c → HasMade may t c k old from new to moved
 
 -- copy k of a network has made its step
-abbrev pub StepsAt : (may : ℕ → Bool) → Held → ℕ → Held → Moved → Type 0
+abbrev pub StepsAt : (may : ℕ → Bool) → NetView → ℕ → NetView → Moved → Type 0
 StepsAt may old k new moved = MakesStep may old.tables k old.stores old.flying new.stores new.flying moved
 
 -- each copy is at home at a switch of the tables

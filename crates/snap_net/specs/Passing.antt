@@ -14,14 +14,14 @@ use Rattle.snap_rows.specs.declared.tables.Tables.{Tables}
 use Rattle.snap_rows.specs.Entries.{Parts, next, port_at}
 use Rattle.snap_rows.specs.Handles.{Handles}
 use Rattle.snap_rows.specs.Happenings.{deliveries_of, losses_of, number_of}
-use Rattle.snap_rows.specs.Network.{Net, Event, Inject, Happening, Crossed, Delivered, Forked, RunsCalmly, StepsFirst, packets_of}
+use Rattle.snap_rows.specs.Network.{Net, Event, Inject, Happening, Crossed, Delivered, Forked, RunsSequentially, StepsFirst, packets_of}
 use Rattle.snap_rows.specs.Stepping.{IsSpread, Steps}
 use Rattle.snap_rows.specs.Ways.{Way}
 use Rattle.snap_net.specs.declared.flying.Flying.{Flying}
 use Rattle.snap_net.specs.declared.passing.Passed.{Passed}
 use Rattle.snap_net.specs.declared.passing.Passed.TheVariants.{Alone, Parted}
 use Rattle.snap_net.specs.Moves.{Changed}
-use Rattle.snap_net.specs.Shown.{Held, Shows, store_of}
+use Rattle.snap_net.specs.Shown.{NetView, Represents, store_of}
 use Rattle.snap_net.specs.Travels.{Crosses, Hears}
 
 -- ---- what is told
@@ -60,7 +60,7 @@ HearsSent saw i old new k passed hs = IsHeard saw i old new (sent_in k passed) (
 
 -- ---- steps
 -- n packets were injected, and these copies are in flight
-abbrev pub held : Tables → ℕ → List Kept → List Flying → Held
+abbrev pub held : Tables → ℕ → List Kept → List Flying → NetView
 held t n stores flying = record { tables = t; stores = stores; injected = n; flying = flying }
 
 -- a copy of packet number i that has come in at switch w
@@ -104,13 +104,13 @@ pub record Goes (t : Tables) (s : Net) (hs : List Happening) (s' : Net) : Type 0
   pub events : List Event
   pub no_packets : packets_of events ≡ []
   pub first : All StepsFirst events
-  pub run : RunsCalmly t s events s' hs
+  pub run : RunsSequentially t s events s' hs
 
 -- from each state with the first stores and copies, where n packets were injected, such steps lead to one with the others, and this is told
 abbrev pub Comes : Tables → ℕ → (old : List Kept) (from : List Flying) (new : List Kept) (to : List Flying)
     → (List Happening → Type 0) → Type 0
-Comes t n old from new to told = (s : Net) → Shows (held t n old from) s
-    → (s' : Net) × (hs : List Happening) × Goes t s hs s' × Shows (held t n new to) s' × told hs
+Comes t n old from new to told = (s : Net) → Represents (held t n old from) s
+    → (s' : Net) × (hs : List Happening) × Goes t s hs s' × Represents (held t n new to) s' × told hs
 
 -- copy c alone comes to switch w, and its step there changes the stores to the new ones, and this becomes of it
 abbrev pub LandsWith : Tables → (old : List Kept) → Flying → (new : List Kept) → (w : ℕ) → Fate → (List Happening → Type 0) → Type 0
@@ -143,18 +143,18 @@ pub record PartsInto {V : Type 0} (t : Tables) (i w : ℕ) (os : List Parts) (k 
 
 -- ---- a packet
 -- the packet was injected at the port, and then each step was of the first copy, until none was left
-pub record PassesTo (port : ℕ) (k : List ℕ) (old new : Held) (told : List Happening → Type 0) (s : Net) : Type 0 where
+pub record PassesTo (port : ℕ) (k : List ℕ) (old new : NetView) (told : List Happening → Type 0) (s : Net) : Type 0 where
   pub state : Net
   pub events : List Event
   pub happenings : List Happening
   pub no_packets : packets_of events ≡ []
   pub first : All StepsFirst events
-  pub run : RunsCalmly old.tables s (Inject port k ∷ events) state happenings
+  pub run : RunsSequentially old.tables s (Inject port k ∷ events) state happenings
   pub rests : state.flying ≡ []
   pub injected : state.injected ≡ s.injected + 1
-  pub shows : Shows new state
+  pub shows : Represents new state
   pub tells : told happenings
 
 -- so it passes from each state that was shown with nothing in flight
-abbrev pub Passes : (port : ℕ) → List ℕ → (old new : Held) → (List Happening → Type 0) → Type 0
-Passes port k old new told = (s : Net) → Shows old s → PassesTo port k old new told s
+abbrev pub Passes : (port : ℕ) → List ℕ → (old new : NetView) → (List Happening → Type 0) → Type 0
+Passes port k old new told = (s : Net) → Represents old s → PassesTo port k old new told s

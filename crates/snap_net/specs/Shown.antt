@@ -5,27 +5,27 @@ use Rattle.snap_core.specs.Arrays.{Arrays}
 use Rattle.snap_core.specs.Cells.{Kept, arrays_of}
 use Rattle.snap_rows.specs.declared.tables.Tables.{Tables}
 use Rattle.snap_rows.specs.Entries.{owner_of}
-use Rattle.snap_rows.specs.Form.{IsInForm, comps, switch_count}
+use Rattle.snap_rows.specs.Form.{IsWellFormed, comps, switch_count}
 use Rattle.snap_rows.specs.Home.{AtHome}
 use Rattle.snap_rows.specs.Rules.{IsValid}
 use Rattle.snap_rows.specs.Network.{Copy, Net, Happening, Crossed, Delivered, Forked, Event, Leads, start}
 use Rattle.snap_net.specs.declared.flying.Flying.{Flying}
-use Rattle.snap_head.specs.Frames.{frame}
+use Rattle.snap_net.specs.Frames.{frame}
 use Rattle.snap_net.specs.declared.happened.Happened.{Happened}
 use Rattle.snap_net.specs.declared.happened.Happened.TheVariants as framed
 use Rattle.snap_net.specs.declared.happened.Moved.{Moved}
 use Rattle.snap_net.specs.declared.happened.Moved.TheVariants as bare
 
 -- what a network of the program holds
-pub record Held : Type 0 where
+pub record NetView : Type 0 where
   pub tables : Tables
   pub stores : List Kept
   pub injected : ℕ
   pub flying : List Flying
 
 -- the tables are valid, and each copy is at home at a switch of theirs
-pub record IsHeld (v : Held) : Type 0 where
-  pub form : IsInForm v.tables
+pub record IsNetView (v : NetView) : Type 0 where
+  pub form : IsWellFormed v.tables
   pub valid : IsValid v.tables
   pub stores : length v.stores ≡ switch_count v.tables
   pub places : All (λ (c : Flying). c.at < switch_count v.tables) v.flying
@@ -49,7 +49,7 @@ abbrev pub flown : Copy → Flying
 flown c = record { number = c.number; at = c.at; head = c.head; packet = c.packet }
 
 -- the network shows this state
-pub record Shows (v : Held) (s : Net) : Type 0 where
+pub record Represents (v : NetView) (s : Net) : Type 0 where
   pub stores : (w : ℕ) → s.stores w ≡ store_of v.stores w
   pub injected : s.injected ≡ v.injected
   pub flying : map flown s.flying ≡ v.flying
@@ -60,8 +60,8 @@ abbrev pub DoneBy : {V S L : Type 0} → (shows : V → S → Type 0)
 DoneBy {S = S} {L = L} shows leads old e new told = (s : S) → shows old s
     → (s' : S) × (hs : List L) × leads s e s' hs × shows new s' × told hs
 
-abbrev pub IsDone : Held → Event → Held → (List Happening → Type 0) → Type 0
-IsDone old e new told = DoneBy Shows (Leads old.tables) old e new told
+abbrev pub Simulates : NetView → Event → NetView → (List Happening → Type 0) → Type 0
+Simulates old e new told = DoneBy Represents (Leads old.tables) old e new told
 
 abbrev pub Nothing : List Happening → Type 0
 Nothing hs = hs ≡ []
@@ -77,23 +77,23 @@ TellsMoved h hs = (x : Happening) × (hs ≡ x ∷ []) × (h ≡ moving x)
 
 -- no visit was held back
 abbrev pub IsUnheld : Moved → Type 0
-IsUnheld (bare.Stayed owner rank) = ⊥
-IsUnheld (bare.Waited owner rank) = ⊥
+IsUnheld (bare.Stayed number rank) = ⊥
+IsUnheld (bare.Waited number rank) = ⊥
 IsUnheld _ = Unit {0}
 
 -- the same with a frame, taken apart
 abbrev pub moved_in : Happened → Moved
-moved_in (framed.Forwarded owner from to bytes) = bare.Forwarded owner from to
-moved_in (framed.Delivered owner port packet) = bare.Delivered owner port packet
-moved_in (framed.Forked owner copies lost) = bare.Forked owner copies lost
+moved_in (framed.Forwarded number from to bytes) = bare.Forwarded number from to
+moved_in (framed.Delivered number port packet) = bare.Delivered number port packet
+moved_in (framed.Forked number copies lost) = bare.Forked number copies lost
 
 abbrev pub frame_in : Happened → List ℕ
-frame_in (framed.Forwarded owner from to bytes) = bytes.items
+frame_in (framed.Forwarded number from to bytes) = bytes.items
 frame_in _ = []
 
 -- these bytes, if a link was crossed
 abbrev pub frame_with : Moved → List ℕ → List ℕ
-frame_with (bare.Forwarded owner from to) bytes = bytes
+frame_with (bare.Forwarded number from to) bytes = bytes
 frame_with _ bytes = []
 
 -- the frame of what crosses a link
@@ -101,12 +101,12 @@ abbrev pub frame_of : Happening → List ℕ
 frame_of (Crossed c to head) = frame head c.packet
 frame_of _ = []
 
-abbrev pub Tells : Happened → List Happening → Type 0
-Tells h hs = (x : Happening) × (hs ≡ x ∷ []) × (moved_in h ≡ moving x) × (frame_in h ≡ frame_of x)
+abbrev pub IsObservedAs : Happened → List Happening → Type 0
+IsObservedAs h hs = (x : Happening) × (hs ≡ x ∷ []) × (moved_in h ≡ moving x) × (frame_in h ≡ frame_of x)
 
 -- if a link was crossed, these bytes are the frame of the copy at this place
 abbrev pub HasFrame : List Flying → ℕ → Moved → List ℕ → Type 0
-HasFrame cs place (bare.Forwarded owner from to) bytes = (c : Flying) → slice_get cs place ≡ Some c → bytes ≡ frame c.head c.packet
+HasFrame cs place (bare.Forwarded number from to) bytes = (c : Flying) → slice_get cs place ≡ Some c → bytes ≡ frame c.head c.packet
 HasFrame cs place _ bytes = Unit {0}
 
 -- a copy that crossed a link stands at this place
@@ -121,7 +121,7 @@ pub record SameArrays (old new : List Kept) : Type 0 where
   pub arrays : (w : ℕ) → store_of new w ≡ store_of old w
 
 -- the same network, but for room
-pub record Same (a b : Held) : Type 0 where
+pub record Same (a b : NetView) : Type 0 where
   pub tables : b.tables ≡ a.tables
   pub stores : SameArrays a.stores b.stores
   pub injected : b.injected ≡ a.injected

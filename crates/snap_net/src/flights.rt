@@ -39,14 +39,14 @@ impl Model for Flights {
 
 // A place in a block.
 #[derive(Clone, Copy)]
-struct Spot {
+struct Slot {
     block: usize,
     place: usize,
 }
 
 // Where a copy of the list is, looked for from the nearer end.
 #[inline(always)]
-fn spot_of(blocks: &[Block], count: usize, k: usize) -> Spot
+fn spot_of(blocks: &[Block], count: usize, k: usize) -> Slot
     requires count { count ≡ length (joined blocks.now) }
     requires k { k < count }
     ensures { IsSpot blocks.now k result }
@@ -58,7 +58,7 @@ fn spot_of(blocks: &[Block], count: usize, k: usize) -> Spot
     }
 }
 
-fn spot_from_front(blocks: &[Block], k: usize) -> Spot
+fn spot_from_front(blocks: &[Block], k: usize) -> Slot
     requires { k < length (joined blocks.now) }
     ensures { IsSpot blocks.now k result }
 {
@@ -66,7 +66,7 @@ fn spot_from_front(blocks: &[Block], k: usize) -> Spot
     for i in 0..blocks.len() {
         let count = blocks[i].count();
         if place < count {
-            return Spot { block: i, place };
+            return Slot { block: i, place };
         }
         place -= count;
     }
@@ -74,7 +74,7 @@ fn spot_from_front(blocks: &[Block], k: usize) -> Spot
 }
 
 #[inline(never)]
-fn spot_from_back(blocks: &[Block], count: usize, k: usize) -> Spot
+fn spot_from_back(blocks: &[Block], count: usize, k: usize) -> Slot
     requires count { count ≡ length (joined blocks.now) }
     requires k { k < count }
     ensures { IsSpot blocks.now k result }
@@ -83,7 +83,7 @@ fn spot_from_back(blocks: &[Block], count: usize, k: usize) -> Spot
     for i in (0..blocks.len()).rev() {
         before -= blocks[i].count();
         if before <= k {
-            return Spot {
+            return Slot {
                 block: i,
                 place: k - before,
             };
@@ -93,7 +93,7 @@ fn spot_from_back(blocks: &[Block], count: usize, k: usize) -> Spot
 }
 
 // The copy at a spot.
-fn copy_at(blocks: &[Block], spot: Spot) -> &Flying
+fn copy_at(blocks: &[Block], spot: Slot) -> &Flying
     requires { IsSpot blocks.now (number_at blocks.now spot) spot }
     ensures { slice_get (joined blocks.now) (number_at blocks.now spot) ≡ Some result.now }
 {
@@ -112,7 +112,7 @@ fn split(blocks: &mut Vec<Block>, i: usize) -> Result<(), NoMemory>
 }
 
 // Where a copy of the list is, in a block that has room for another.
-fn roomy_spot(blocks: &mut Vec<Block>, count: usize, k: usize) -> Result<Spot, NoMemory>
+fn roomy_spot(blocks: &mut Vec<Block>, count: usize, k: usize) -> Result<Slot, NoMemory>
     requires count { count ≡ length (joined blocks.old.items) }
     requires k { k < count }
     ensures same { joined blocks.new.items ≡ joined blocks.old.items }
@@ -127,7 +127,7 @@ fn roomy_spot(blocks: &mut Vec<Block>, count: usize, k: usize) -> Result<Spot, N
 }
 
 // Puts a copy behind the one at a spot.
-fn insert_at(blocks: &mut Vec<Block>, spot: Spot, copy: Flying) -> Result<(), NoMemory>
+fn insert_at(blocks: &mut Vec<Block>, spot: Slot, copy: Flying) -> Result<(), NoMemory>
     requires { IsSpot blocks.old.items (number_at blocks.old.items spot) spot }
     ensures ok { OnOk result (joined blocks.new.items ≡ spliced (joined blocks.old.items) (number_at blocks.old.items spot + 1) 0 (copy ∷ [])) }
     ensures err { OnErr result (joined blocks.new.items ≡ joined blocks.old.items) }
@@ -136,7 +136,7 @@ fn insert_at(blocks: &mut Vec<Block>, spot: Spot, copy: Flying) -> Result<(), No
 }
 
 // Sends the copy at a spot to a switch.
-fn send_at(blocks: &mut Vec<Block>, spot: Spot, to: u16, head: Head)
+fn send_at(blocks: &mut Vec<Block>, spot: Slot, to: u16, head: Head)
     requires { IsSpot blocks.old.items (number_at blocks.old.items spot) spot }
     ensures { SendsCopy (joined blocks.old.items) (number_at blocks.old.items spot) to head (joined blocks.new.items) }
 {
@@ -145,7 +145,7 @@ fn send_at(blocks: &mut Vec<Block>, spot: Spot, to: u16, head: Head)
 
 // Takes out the copy at a spot.
 #[inline(always)]
-fn remove_at(blocks: &mut Vec<Block>, spot: Spot) -> Flying
+fn remove_at(blocks: &mut Vec<Block>, spot: Slot) -> Flying
     requires { IsSpot blocks.old.items (number_at blocks.old.items spot) spot }
     ensures copy { slice_get (joined blocks.old.items) (number_at blocks.old.items spot) ≡ Some result }
     ensures left { joined blocks.new.items ≡ spliced (joined blocks.old.items) (number_at blocks.old.items spot) 1 [] }

@@ -15,6 +15,7 @@ ghost use Rattle.snap_net.specs.Flights.{spliced};
 ghost use Rattle.snap_net.specs.Shown.{HasFrame, SameArrays, store_of};
 ghost use Rattle.snap_net.specs.Moves.{AreHome, Changed, copies_in_flight, HasGone, HasMoved, HasParted, HasUpdated, IsFrameBy, MakesStep};
 
+use crate::encode::encode;
 use crate::flights::Flights;
 use crate::flying::Flying;
 use crate::happened::{Framed, Moved};
@@ -22,7 +23,6 @@ use snap_core::NoMemory;
 use snap_core::lists::Out;
 use snap_core::packet::Packet;
 use snap_core::store::Store;
-use snap_head::encode::encode;
 use snap_rows::admit::Admit;
 use snap_rows::dues::Dues;
 use snap_rows::fork::{Spread, spread_out};
@@ -70,10 +70,10 @@ fn forward(flying: &mut Flights, k: usize, to: u16, head: Head) -> Moved
     ensures { HasMoved flying.old k (Forward to head) flying.new result }
 {
     let copy = flying.get(k);
-    let owner = copy.number;
+    let number = copy.number;
     let from = copy.at;
     flying.send(k, to, head);
-    Moved::Forwarded { owner, from, to }
+    Moved::Forwarded { number, from, to }
 }
 
 // Delivers copy k.
@@ -83,7 +83,7 @@ fn deliver(flying: &mut Flights, k: usize, port: u32) -> Moved
 {
     let gone = flying.remove(k);
     Moved::Delivered {
-        owner: gone.number,
+        number: gone.number,
         port,
         packet: gone.packet,
     }
@@ -163,10 +163,10 @@ fn stay(flying: &mut Flights, k: usize, rank: u16, node: u64) -> Moved
     ensures { (t : Tables) → HasGone t flying.old k (Stay rank node) flying.new result }
 {
     let copy = flying.get(k);
-    let owner = copy.number;
+    let number = copy.number;
     let at = copy.at;
     flying.send(k, at, Head::Visit { rank, node });
-    Moved::Stayed { owner, rank }
+    Moved::Stayed { number, rank }
 }
 
 // Keeps copy k as it is, before its visit of a rank.
@@ -175,7 +175,7 @@ fn wait(flying: &Flights, k: usize, rank: u16) -> Moved
     ensures { (t : Tables) → HasGone t flying.now k (Wait rank) flying.now result }
 {
     Moved::Waited {
-        owner: flying.get(k).number,
+        number: flying.get(k).number,
         rank,
     }
 }
@@ -203,7 +203,7 @@ fn part(
     let count = copies.len() as u64;
     let gone = fork(alloc, stores, flying, k, ups, copies)?;
     Ok(Moved::Forked {
-        owner: gone.number,
+        number: gone.number,
         copies: count,
         lost,
     })

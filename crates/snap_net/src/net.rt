@@ -6,10 +6,10 @@ ghost use Rattle.snap_core.specs.Cells.{arrays_of};
 ghost use Rattle.snap_core.specs.Listing.{IsListing, entry_of};
 ghost use Rattle.snap_rows.specs.Entries.{port_at};
 ghost use Rattle.snap_rows.specs.Form.{comps, array_count, switch_count};
-ghost use Rattle.snap_rows.specs.Network.{Net as State, start, whole, Inject, Step};
+ghost use Rattle.snap_rows.specs.Network.{Net as State, start, global_store, Inject, Step};
 ghost use Rattle.snap_net.specs.declared.flying.Flying.{Flying};
 ghost use Rattle.snap_net.specs.Passing.{Passes, sent_in, HearsSent};
-ghost use Rattle.snap_net.specs.Shown.{HasFrame, IsHeld, Shows, IsDone, Nothing, Tells, TellsMoved, Same, store_of};
+ghost use Rattle.snap_net.specs.Shown.{HasFrame, IsNetView, Represents, Simulates, Nothing, IsObservedAs, TellsMoved, Same, store_of};
 ghost use Rattle.snap_net.specs.Parts.{held_of};
 ghost use Rattle.snap_net.specs.Moves.{StepsAt};
 ghost use Rattle.snap_net.specs.declared.net.InjectFault.{InjectFault};
@@ -63,13 +63,13 @@ pub struct Net {
 }
 
 impl Model for Net {
-    ghost use Rattle.snap_net.specs.Shown.{Held, IsHeld};
+    ghost use Rattle.snap_net.specs.Shown.{NetView, IsNetView};
 
-    ghost Value = { Held };
+    ghost Value = { NetView };
 
     ghost view = { λ a. record { tables = a.tables; stores = a.stores.items; injected = a.injected; flying = a.flying } };
 
-    ghost invariant = { λ a. IsHeld (record { tables = a.tables; stores = a.stores.items; injected = a.injected; flying = a.flying }) };
+    ghost invariant = { λ a. IsNetView (record { tables = a.tables; stores = a.stores.items; injected = a.injected; flying = a.flying }) };
 }
 
 impl From<NoMemory> for InjectFault {
@@ -96,7 +96,7 @@ impl From<NoMemory> for StepFault {
 pub fn open_net(alloc: Global, tables: Valid) -> Result<Net, NoMemory>
     ensures tables { IfOk result (λ net. net.tables ≡ tables) }
     ensures injected { IfOk result (λ net. net.injected ≡ 0) }
-    ensures start { IfOk result (λ net. Shows net (start tables zero_arrays)) }
+    ensures start { IfOk result (λ net. Represents net (start tables zero_arrays)) }
 {
     let stores = empty_stores(alloc, tables.tables().switches.items().len())?;
     Ok(Net {
@@ -124,16 +124,16 @@ impl Net {
     /// Lends the tables. Takes no memory.
     pub fn tables(&self) -> &Valid
         ensures tables { result.now ≡ self.now.tables }
-        ensures held { IsHeld self.now }
+        ensures held { IsNetView self.now }
     {
         &self.tables
     }
 
     /// The number of copies in flight. Takes no memory.
     pub fn flying(&self) -> usize
-        ensures shown { (s : State) → Shows self.now s → result ≡ length s.flying }
+        ensures shown { (s : State) → Represents self.now s → result ≡ length s.flying }
         ensures held { result ≡ length self.now.flying }
-        ensures is_held { IsHeld self.now }
+        ensures is_held { IsNetView self.now }
     {
         self.flying.count()
     }
@@ -172,7 +172,7 @@ impl Net {
         requires packet { length packet ≡ comps self.old.tables }
         requires port { slice_index packet 0 ≡ port }
         requires room { self.old.injected + 1 < 2 ^ 64 }
-        ensures done { IfOk result (λ number. (number ≡ self.old.injected) × IsDone self.old (Inject port packet) self.new Nothing) }
+        ensures done { IfOk result (λ number. (number ≡ self.old.injected) × Simulates self.old (Inject port packet) self.new Nothing) }
         ensures tables { self.new.tables ≡ self.old.tables }
         ensures count { OnOk result (self.new.injected ≡ self.old.injected + 1) }
         ensures no_port { IfErr result (λ fault. fault ≢ InjectFault.NoMemory → port_at self.old.tables port ≡ None) }
@@ -273,7 +273,7 @@ impl Net {
     ///
     /// `NoCopy` exactly where there is no such copy; `NoMemory` for want of memory.
     pub fn step(&mut self, k: usize) -> Result<Happened, StepFault>
-        ensures done { IfOk result (λ happened. IsDone self.old (Step k) self.new (Tells happened)) }
+        ensures done { IfOk result (λ happened. Simulates self.old (Step k) self.new (IsObservedAs happened)) }
         ensures tables { self.new.tables ≡ self.old.tables }
         ensures injected { self.new.injected ≡ self.old.injected }
         ensures copy { IfErr result (λ fault. fault ≡ StepFault.NoCopy → length self.old.flying ≤ k) }
@@ -293,7 +293,7 @@ impl Net {
     ///
     /// As `step`.
     pub fn advance(&mut self, k: usize) -> Result<Moved, StepFault>
-        ensures done { IfOk result (λ moved. IsDone self.old (Step k) self.new (TellsMoved moved)) }
+        ensures done { IfOk result (λ moved. Simulates self.old (Step k) self.new (TellsMoved moved)) }
         ensures tables { self.new.tables ≡ self.old.tables }
         ensures injected { self.new.injected ≡ self.old.injected }
         ensures copy { IfErr result (λ fault. fault ≡ StepFault.NoCopy → length self.old.flying ≤ k) }
@@ -310,7 +310,7 @@ impl Net {
     /// The number at a place of the whole store: each array is taken at its switch. Takes no memory.
     pub fn array(&self, var: u16, index: &[u64]) -> u64
         requires { var < array_count self.now.tables }
-        ensures { (s : State) → Shows self.now s → result ≡ whole self.now.tables s (record { var = var; index = index.now }) }
+        ensures { (s : State) → Represents self.now s → result ≡ global_store self.now.tables s (record { var = var; index = index.now }) }
     {
         let at = self.tables.owner_of(var);
         self.stores[at as usize].get(var, index)
@@ -319,7 +319,7 @@ impl Net {
     /// The places of the whole store that don't hold 0, rising by variable and then by index, with their numbers. Each array
     /// is listed at its switch. Refuses for memory alone.
     pub fn listing(&self) -> Result<Vec<Listed<'_>>, NoMemory>
-        ensures { IfOk result (λ listed. (s : State) → Shows self.now s → IsListing (whole self.now.tables s) (map entry_of listed.items)) }
+        ensures { IfOk result (λ listed. (s : State) → Represents self.now s → IsListing (global_store self.now.tables s) (map entry_of listed.items)) }
     {
         let cells = self.stores.iter().map(|store| store.cells());
         let room = cells.fold(0, |sum: usize, count| sum.saturating_add(count));
@@ -334,7 +334,7 @@ impl Net {
 
     /// The same with indices of their own. Refuses for memory alone.
     pub fn entries(&self) -> Result<Vec<Entry>, NoMemory>
-        ensures { IfOk result (λ entries. (s : State) → Shows self.now s → IsListing (whole self.now.tables s) entries.items) }
+        ensures { IfOk result (λ entries. (s : State) → Represents self.now s → IsListing (global_store self.now.tables s) entries.items) }
     {
         let listed = self.listing()?;
         let mut entries = Vec::with_capacity(self.alloc, listed.len())?;
@@ -350,7 +350,7 @@ impl Net {
         requires { array_count tables ≡ array_count self.old.tables }
         ensures tables { OnOk result (self.new.tables ≡ tables) }
         ensures flying { OnOk result (self.new.flying ≡ []) }
-        ensures stores { OnOk result ((s : State) → Shows self.old s → Shows self.new (record (start tables (whole self.old.tables s)) { injected = s.injected })) }
+        ensures stores { OnOk result ((s : State) → Represents self.old s → Represents self.new (record (start tables (global_store self.old.tables s)) { injected = s.injected })) }
         ensures injected { self.new.injected ≡ self.old.injected }
         ensures err { OnErr result ((self.new.tables ≡ self.old.tables) × (self.new.flying ≡ self.old.flying)) }
     {
@@ -365,7 +365,7 @@ impl Net {
 
     /// Takes the network apart. Refuses for memory alone.
     pub fn into_parts(self) -> Result<Parts, NoMemory>
-        ensures held { IsHeld self }
+        ensures held { IsNetView self }
         ensures parts { IfOk result (λ parts. held_of parts ≡ self) }
     {
         let _known = self.tables();
@@ -387,7 +387,7 @@ impl Net {
 
     /// Puts a network together. Refuses for memory alone.
     pub fn from_parts(alloc: Global, parts: Parts) -> Result<Net, NoMemory>
-        requires { IsHeld (held_of parts) }
+        requires { IsNetView (held_of parts) }
         ensures { IfOk result (λ net. net ≡ held_of parts) }
     {
         let Parts {

@@ -18,7 +18,7 @@ use snap_core::lists::Out;
 use snap_core::packet::Packet;
 use snap_core::store::Store;
 use snap_rows::admit::Every;
-use snap_rows::fork::{Spread, spread_out, turn};
+use snap_rows::fork::{Spread, apply_out, spread_out};
 use snap_rows::head::{Fate, Head, Sent};
 use snap_rows::plan::step;
 use snap_rows::valid::Valid;
@@ -179,7 +179,7 @@ fn part_one<W: Watch>(
     ensures parts { IfOk result (λ passed. PartsInto tables.now number at (out.now ∷ []) packet.old (W.saw tables.now) watch.old watch.new (sent_in packet.new passed) (lost_in passed)) }
     ensures long { length packet.new ≡ length packet.old }
 {
-    let goes = turn(tables, out, packet)?;
+    let goes = apply_out(tables, out, packet)?;
     match goes {
         Some(port) => {
             watch.go_out(tables, number, at, port, packet)?;

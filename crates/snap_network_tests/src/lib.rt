@@ -2,13 +2,13 @@
 #![tactic(auto)]
 
 #[cfg(test)]
+mod of_changes;
+#[cfg(test)]
 mod of_demo;
 #[cfg(test)]
-mod of_gen;
+mod of_faithful;
 #[cfg(test)]
-mod of_head;
-#[cfg(test)]
-mod of_move;
+mod of_frame;
 #[cfg(test)]
 mod of_net;
 #[cfg(test)]

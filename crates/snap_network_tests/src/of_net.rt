@@ -35,19 +35,19 @@ enum Told {
 
 fn summary(moved: &Moved) -> Told {
     match moved {
-        Moved::Forwarded { owner, from, to } => Told::Forwarded(*owner, *from, *to),
+        Moved::Forwarded { number, from, to } => Told::Forwarded(*number, *from, *to),
         Moved::Delivered {
-            owner,
+            number,
             port,
             packet,
-        } => Told::Delivered(*owner, *port, outport(packet)),
+        } => Told::Delivered(*number, *port, outport(packet)),
         Moved::Forked {
-            owner,
+            number,
             copies,
             lost,
-        } => Told::Forked(*owner, *copies, *lost),
-        Moved::Stayed { owner, rank } => Told::Stayed(*owner, *rank),
-        Moved::Waited { owner, rank } => Told::Waited(*owner, *rank),
+        } => Told::Forked(*number, *copies, *lost),
+        Moved::Stayed { number, rank } => Told::Stayed(*number, *rank),
+        Moved::Waited { number, rank } => Told::Waited(*number, *rank),
     }
 }
 
@@ -207,7 +207,7 @@ fn copies_that_are_not_there_make_no_step(rt: HostRuntime) -> Result<(), Fail> {
 }
 
 // The number of an entry that is alone, and at place 0 of the first array.
-fn lone_number(entries: &[Entry]) -> Option<u64> {
+fn number_alone(entries: &[Entry]) -> Option<u64> {
     match entries {
         [entry] => {
             if entry.place.var == 0 && entry.place.index.items() == [0].as_slice() {
@@ -226,7 +226,7 @@ fn left(net: &Net) -> Result<Option<u64>, NoMemory> {
         return Ok(None);
     }
     let entries = net.entries()?;
-    Ok(lone_number(&entries))
+    Ok(number_alone(&entries))
 }
 
 // What is told of steps, and the number that is left behind them.

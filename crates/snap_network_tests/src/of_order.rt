@@ -1,4 +1,4 @@
-//! Runs in turn of worked tables.
+//! Runs in order of worked tables.
 
 ghost use Rattle.std.specs.Prelude.{◌≡◌, IfOk};
 
@@ -10,9 +10,9 @@ use snap_core::NoMemory;
 use snap_io::{MemoryShelf, MemorySink};
 use snap_order::schedule::schedule_ordered;
 use snap_order::trace::trace_ordered;
+use snap_report::TraceFault;
 use snap_rows::valid::Valid;
 use snap_runs::schedule::ScheduleFault;
-use snap_trace::TraceFault;
 use std::alloc::Global;
 use std::test::Fail;
 

@@ -1,7 +1,7 @@
 use crate::texts::{FIRST_COME, shelf, sink, valid};
 use snap_io::{MemoryShelf, MemorySink};
+use snap_report::TraceFault;
 use snap_runs::trace::trace;
-use snap_trace::TraceFault;
 use std::alloc::Global;
 use std::test::Fail;
 

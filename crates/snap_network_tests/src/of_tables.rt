@@ -1,7 +1,7 @@
 use crate::texts::{FIRST_COME, MOVED, TWO_OWNERS, TWO_OWNERS_1, valid};
 use snap_core::NoMemory;
 use snap_io::MemorySink;
-use snap_rows::valid::{Valid, lone};
+use snap_rows::valid::{Valid, single_owner};
 use snap_tables::fault::{PrintFault, TablesFault};
 use snap_tables::print::print;
 use snap_tables::read::read;
@@ -39,23 +39,23 @@ fn text_of(alloc: Global, tables: &Valid) -> Result<Vec<u8>, Fail> {
     Ok(sink.bytes().to_vec(alloc)?)
 }
 
-// Whether tables are lone that are written as this text.
-fn lone_as(alloc: Global, tables: &Valid, text: &[u8]) -> Result<Option<bool>, Fail> {
+// Whether tables are single-owner that are written as this text.
+fn single_owner_as(alloc: Global, tables: &Valid, text: &[u8]) -> Result<Option<bool>, Fail> {
     let written = text_of(alloc, tables)?;
     if written.as_slice() == text {
-        Ok(Some(lone(tables)))
+        Ok(Some(single_owner(tables)))
     } else {
         Ok(None)
     }
 }
 
-// Whether tables are lone whose text is read, and written as it was.
-fn is_lone(alloc: Global, text: &[u8]) -> Result<Option<bool>, Fail> {
+// Whether tables are single-owner whose text is read, and written as it was.
+fn is_single_owner(alloc: Global, text: &[u8]) -> Result<Option<bool>, Fail> {
     let tables = valid(alloc, text)?;
-    lone_as(alloc, &tables, text)
+    single_owner_as(alloc, &tables, text)
 }
 
-// Texts, and whether their tables are lone.
+// Texts, and whether their tables are single-owner.
 const LONE: [(&[u8], bool); 5] = [
     (FIRST_COME, true),
     (TWO_OWNERS, false),
@@ -66,8 +66,11 @@ const LONE: [(&[u8], bool); 5] = [
 
 #[test]
 fn tables_are_read_back(rt: HostRuntime) -> Result<(), Fail> {
-    for (text, lone) in LONE {
-        assert!(rt; is_lone(rt.alloc(), text)? == Some(lone), "{text:?}");
+    for (text, single_owner) in LONE {
+        assert!(rt;
+            is_single_owner(rt.alloc(), text)? == Some(single_owner),
+            "{text:?}"
+        );
     }
     Ok(())
 }

@@ -1,4 +1,4 @@
--- A copy that can be handled can make a step in turn.
+-- A copy that can be handled can make a step in order.
 use Rattle.std.proofs.Common.{◌≡◌, ◌≢◌, ◌⊎◌, inl, inr, ⊎_elim, ℕ, Bool, true, false, List, [], ◌∷◌, Some, refl, sym, ap, subst, ◌∙◌}
 use Rattle.std.specs.Prelude.{slice_get}
 use Rattle.std.proofs.lemmas.Bool.{both_ways, cases_eq}
@@ -14,20 +14,20 @@ use Rattle.snap_rows.specs.Handles as handles
 use Rattle.snap_rows.specs.Handles.{Handles}
 use Rattle.snap_rows.specs.Network.{Copy, happening, stepped}
 use Rattle.snap_rows.proofs.Able.{able}
-use Rattle.snap_gen.specs.Agreement.{lost_of, sent_of}
-use Rattle.snap_gen.specs.InTurn.{Becomes, SentOn, Waiting, Forks, TakesTurns, handled_more}
-use Rattle.snap_gen.specs.InTurn as turn
-use Rattle.snap_gen.proofs.Nodes.{IsTwo, WalkDoes, visits_first, forks_at_once, walk_does}
+use Rattle.snap_faithful.specs.Agreement.{lost_of, sent_of}
+use Rattle.snap_faithful.specs.InOrder.{Becomes, SentOn, Waiting, Forks, TakesTurns, handled_more}
+use Rattle.snap_faithful.specs.InOrder as turn
+use Rattle.snap_faithful.proofs.Nodes.{IsTwo, WalkDoes, visits_first, forks_at_once, walk_does}
 use Rattle.snap_rows.specs.Stepping.{ComesTo, visit, walk}
-use Rattle.snap_order.specs.Ordered.{Ordered, Turn, Happens, Waits, IsBefore, moves, visits, waits, turn_of, visited}
+use Rattle.snap_order.specs.Ordered.{Ordered, OrderedHappening, Happens, Waits, AwaitsVisit, moves, visits, waits, turn_of, visited}
 use Rattle.snap_order.specs.Progress.{CanStep}
-use Rattle.snap_order.specs.Rounding.{is_early}
+use Rattle.snap_order.specs.Rounding.{is_above_leaf}
 use Rattle.snap_order.proofs.Placed.{Placed}
 use Rattle.snap_order.proofs.Standing.{comes_early}
 use Rattle.snap_order.proofs.Taking.{same_rank}
 
 -- ---- turns that are no wait
-abbrev pub is_waiting : Turn → Bool
+abbrev pub is_waiting : OrderedHappening → Bool
 is_waiting (Waits c r) = true
 is_waiting _ = false
 
@@ -36,12 +36,12 @@ visits_on c (SentOn to r n) = refl
 visits_on c (Waiting r n) = refl
 visits_on c (Forks copies lost) = refl
 
-pub no_wait : (u : Turn) (c : Copy) (r : ℕ) → is_waiting u ≡ false → u ∷ [] ≡ Waits c r ∷ [] → ⊥
+pub no_wait : (u : OrderedHappening) (c : Copy) (r : ℕ) → is_waiting u ≡ false → u ∷ [] ≡ Waits c r ∷ [] → ⊥
 no_wait u c r isnt e = both_ways _ isnt (ap is_waiting (same_Some u (Waits c r) (ap (λ l. slice_get l 0) e)))
 
 module _ (t : Tables) (two : IsTwo t) where
   -- ---- visits
-  -- visits that a switch makes without order are made in turn, up to the first whose turn hasn't come
+  -- visits that a switch makes without order are made in order, up to the first whose turn hasn't come
   record Taken (w : ℕ) (k : List ℕ) (i : ℕ) (m : Arrays) (h : ℕ → ℕ) (r n : ℕ) : Type 0 where
     arrays : Arrays
     numbers : ℕ → ℕ
@@ -86,7 +86,7 @@ module _ (t : Tables) (two : IsTwo t) where
     abbrev Comes : Head → ℕ → ℕ → Type 0
     Comes head r n = ComesTo t c.at c.packet (s.net.stores c.at) head r n
 
-    apart : ((r n : ℕ) → ¬ IsBefore t s.net c r n) → CanStep t s j
+    apart : ((r n : ℕ) → ¬ AwaitsVisit t s.net c r n) → CanStep t s j
     apart none = record { state = record s { net = stepped s.net j c m a }; turns = Happens (happening c a) ∷ []; leads = moves found none does }
 
     at_visit : (r n : ℕ) → Comes c.head r n → Handles t c.at c.packet (s.net.stores c.at) (Visit r n) m a → CanStep t s j
@@ -94,7 +94,7 @@ module _ (t : Tables) (two : IsTwo t) where
       where
         by : (rank_at t r ≡ Some c.at) ⊎ (rank_at t r ≢ Some c.at) → CanStep t s j
         by (inl own) =
-            let before : IsBefore t s.net c r n = record { comes = to; owner = own } in
+            let before : AwaitsVisit t s.net c r n = record { comes = to; owner = own } in
             ⊎_elim
             (λ now.
             (let taken = takes_turns c.number made s.handled in
@@ -107,14 +107,14 @@ module _ (t : Tables) (two : IsTwo t) where
     at_walk n is (inl (v, some, follow, rest)) = at_visit 0 v (subst (λ head. Comes head 0 v) (sym is) (walk some follow)) rest
     at_walk n is (inr none) = apart (λ q v before. needs_ranks none (subst (λ head. Comes head q v) is before.comes))
 
-    late : is_early c.head ≡ false → CanStep t s j
+    late : is_above_leaf c.head ≡ false → CanStep t s j
     late forked = apart (λ q v before. both_ways _ forked (comes_early before.comes))
 
     pub step_of : (head : Head) → c.head ≡ head → CanStep t s j
     step_of (Walk n) is = at_walk n is (walk_goes_on (walk_does t two (subst (λ head. Handles t c.at c.packet (s.net.stores c.at) head m a) is does)))
     step_of (Visit r n) is = at_visit r n (subst (λ head. Comes head r n) (sym is) visit) (subst (λ head. Handles t c.at c.packet (s.net.stores c.at) head m a) is does)
-    step_of (Stage n i) is = late (ap is_early is)
-    step_of (Out p) is = late (ap is_early is)
+    step_of (Stage n i) is = late (ap is_above_leaf is)
+    step_of (Out p) is = late (ap is_above_leaf is)
 
   pub can_step : (s : Ordered) (j : ℕ) (c : Copy) → slice_get s.net.flying j ≡ Some c → Placed t c → CanStep t s j
   can_step s j c found p = let x = able t two.valid two.form c.at c.packet (s.net.stores c.at) c.head p.home in step_of s j c found x.0 x.1 x.2 c.head refl

@@ -17,7 +17,7 @@ use Rattle.snap_rows.specs.Steps.{Arrives}
 use Rattle.snap_net.specs.declared.flying.Flying.{Flying}
 use Rattle.snap_net.specs.declared.happened.Moved.{Moved}
 use Rattle.snap_net.specs.Moves.{flights}
-use Rattle.snap_gen.specs.InTurn.{Becomes, handled_more, TakesTurns, seeks, waits, visits, concludes}
+use Rattle.snap_faithful.specs.InOrder.{Becomes, handled_more, TakesTurns, seeks, waits, visits, concludes}
 use Rattle.snap_order.specs.Hands.{InPlace, StepsHere, StepsIn, part_of}
 use Rattle.snap_order.specs.Turning.{HasCounted}
 use Rattle.snap_order.proofs.Dealing.{same_number}

@@ -20,15 +20,15 @@ use Rattle.snap_net.specs.declared.happened.Moved.{Moved}
 use Rattle.snap_net.specs.Moves.{left_by, told_by}
 use Rattle.snap_net.specs.Shown.{flown}
 use Rattle.snap_net.proofs.Steps.{acts_leave, acts_tell, flown_moved, moving_of}
-use Rattle.snap_gen.proofs.Leaving.{split_up}
-use Rattle.snap_gen.proofs.Nodes.{IsTwo}
-use Rattle.snap_gen.specs.InTurn.{Becomes, TakesTurns}
+use Rattle.snap_faithful.proofs.Leaving.{split_up}
+use Rattle.snap_faithful.proofs.Nodes.{IsTwo}
+use Rattle.snap_faithful.specs.InOrder.{Becomes, TakesTurns}
 use Rattle.snap_order.specs.Hands.{InPlace, StepsHere, StepsTo}
 use Rattle.snap_order.specs.Ordered.{Ordered, Happens, Waits, turn_of, visited}
 use Rattle.snap_order.specs.Ordered as ordered
 use Rattle.snap_order.specs.Turning.{HasCounted, fate_behind, first_of, rank_behind}
 use Rattle.snap_order.proofs.Handling.{arrived_in_place, counted_so, kept_so, taken_alike}
-use Rattle.snap_order.proofs.Stepped.{Becoming, behind_acts, behind_becomes, counted_none, first_comes, in_turn, left_becomes, no_visits, told_becomes, turns_taken}
+use Rattle.snap_order.proofs.Stepped.{Becoming, behind_acts, behind_becomes, counted_none, first_comes, in_order, left_becomes, no_visits, told_becomes, turns_taken}
 use Rattle.snap_order.proofs.Taking.{Counts, counts}
 
 -- what becomes of a copy is in its place again
@@ -122,16 +122,16 @@ module _ (t : Tables) (two : IsTwo t) (old new : Arrays) (counted counted' : Lis
           λ q ne. counted_none numbers none q,
         )
 
-    goes : Steps t x.at x.packet (in_turn counted x.number) old x.head new f → Goes × Keeps
+    goes : Steps t x.at x.packet (in_order counted x.number) old x.head new f → Goes × Keeps
     goes (stepping.goes {a = a} early acts does) = passes a early acts does
     goes (stepping.visits {r = r} {n = n} version comes own did) =
         ⊎_elim
         (λ w. waits r n comes own (eqb-false (get_or counted r 0) x.number w.2) w.0 w.1)
         (λ d. visits r n comes own (eqb-true (get_or counted r 0) x.number d.0) d.1.0 d.1.1 d.1.2 d.1.3)
-        (turns_taken t x.at x.packet x.number (in_turn counted x.number) (λ j. get_or counted j 0) old r n (λ j e. eqb-true (get_or counted j 0) x.number e) (λ j e. eqb-false (get_or counted j 0) x.number e) own f did)
+        (turns_taken t x.at x.packet x.number (in_order counted x.number) (λ j. get_or counted j 0) old r n (λ j e. eqb-true (get_or counted j 0) x.number e) (λ j e. eqb-false (get_or counted j 0) x.number e) own f did)
 
-  -- a copy makes a step with the visits that are in turn
-  pub steps_here : (c : Flying) → InPlace t c → (f : Fate) → Steps t c.at c.packet (in_turn counted c.number) old c.head new f → FateArrives t c.at f → HasCounted counted (first_of t c.head) (fate_behind t (first_of t c.head) f) (c.number + 1) counted'
+  -- a copy makes a step with the visits that are in order
+  pub steps_here : (c : Flying) → InPlace t c → (f : Fate) → Steps t c.at c.packet (in_order counted c.number) old c.head new f → FateArrives t c.at f → HasCounted counted (first_of t c.head) (fate_behind t (first_of t c.head) f) (c.number + 1) counted'
       → (left : List Flying) → left ≡ left_by t c f → (told : Moved) → told ≡ told_by t c f → StepsHere t c old counted new counted' left told
   steps_here c place f made arrives numbers left is told tells =
       let x : Copy = record { number = c.number; at = c.at; head = c.head; packet = c.packet; hops = 0; steps = 0 } in
@@ -140,7 +140,7 @@ module _ (t : Tables) (two : IsTwo t) (old new : Arrays) (counted counted' : Lis
         long = numbers.long;
         placed = subst (All (InPlace t)) (sym is) (left_in_place t two c f place arrives);
         steps = λ s i y found shown.
-            subst (λ (c : Flying). left ≡ left_by t c f → told ≡ told_by t c f → HasCounted counted (first_of t c.head) (fate_behind t (first_of t c.head) f) (c.number + 1) counted' → Steps t c.at c.packet (in_turn counted c.number) old c.head new f
+            subst (λ (c : Flying). left ≡ left_by t c f → told ≡ told_by t c f → HasCounted counted (first_of t c.head) (fate_behind t (first_of t c.head) f) (c.number + 1) counted' → Steps t c.at c.packet (in_order counted c.number) old c.head new f
             → s.net.stores c.at ≡ old → ((r : ℕ) → rank_at t r ≡ Some c.at → s.handled r ≡ get_or counted r 0) → StepsTo t c new counted' left told s i) shown
             (λ is tells numbers made stores handled. (goes y f left told is tells numbers made).0 s i found stores handled) is tells numbers made;
       }

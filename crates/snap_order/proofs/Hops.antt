@@ -1,4 +1,4 @@
--- How far copies get in runs in turn.
+-- How far copies get in runs in order.
 use Rattle.std.proofs.Common.{◌≡◌, ◌≢◌, ℕ, ◌+◌, ◌-◌, ◌*◌, ◌<◌, ◌≤◌, List, [], ◌∷◌, ◌++◌, take, drop, length, map, Some, refl, sym, ap, subst, ◌∙◌, arith}
 use Rattle.std.specs.Prelude.{option_map, unwrap_or}
 use Rattle.std.specs.List.{All}
@@ -10,8 +10,8 @@ use Rattle.std.proofs.lemmas.Option.{slice_get_within}
 use Rattle.snap_core.specs.declared.program.Program.{Program}
 use Rattle.snap_core.specs.Arrays.{Arrays}
 use Rattle.snap_dep.specs.Ranks.{IsRank}
-use Rattle.snap_route.specs.Walks.{Linked, IsNext, IsDiameter}
-use Rattle.snap_topo.specs.declared.topology.Topology.{Topology}
+use Rattle.snap_topology.specs.Walks.{Linked, IsNext, IsDiameter}
+use Rattle.snap_topology.specs.declared.topology.Topology.{Topology}
 use Rattle.snap_rows.specs.declared.tables.ArrayAt.{ArrayAt}
 use Rattle.snap_rows.specs.declared.tables.Tables.{Tables}
 use Rattle.snap_rows.specs.Actions.{Action, Forward, Deliver, Fork}
@@ -24,14 +24,14 @@ use Rattle.snap_rows.specs.Handles.{Handles}
 use Rattle.snap_rows.specs.Network.{Net, Copy, Event, Happening, Crossed, Delivered, Forked, done, on, step, moved, happening}
 use Rattle.snap_rows.proofs.Later.{rank_is_below}
 use Rattle.snap_rows.proofs.Rows.{All-get}
-use Rattle.snap_gen.specs.Faithful.{Faithful}
-use Rattle.snap_gen.specs.InTurn.{Becomes, SentOn, Waiting, Forks, TakesTurns}
-use Rattle.snap_gen.proofs.Bounds.{HasDistances, HeadWithin, CopyWithin, one_step, few}
-use Rattle.snap_gen.proofs.Far.{ranks_few}
-use Rattle.snap_gen.proofs.Leaving.{split_off}
-use Rattle.snap_gen.proofs.Nodes.{IsTwo}
+use Rattle.snap_faithful.specs.Faithful.{Faithful}
+use Rattle.snap_faithful.specs.InOrder.{Becomes, SentOn, Waiting, Forks, TakesTurns}
+use Rattle.snap_faithful.proofs.Bounds.{HasDistances, HeadWithin, CopyWithin, one_step, few}
+use Rattle.snap_faithful.proofs.Far.{ranks_few}
+use Rattle.snap_faithful.proofs.Leaving.{split_off}
+use Rattle.snap_faithful.proofs.Nodes.{IsTwo}
 use Rattle.snap_rows.specs.Stepping.{ComesTo, visit, walk}
-use Rattle.snap_order.specs.Ordered.{Ordered, Turn, left_by, turn_of, LeadsInTurn, injects, moves, visits, waits, RunsInTurn, happenings}
+use Rattle.snap_order.specs.Ordered.{Ordered, OrderedHappening, left_by, turn_of, LeadsInOrder, injects, moves, visits, waits, RunsInOrder, happenings}
 use Rattle.snap_order.specs.Laws.{IsDeliveredWithin, Overlaps}
 use Rattle.snap_order.proofs.Near.{near, distances}
 use Rattle.snap_order.proofs.Overlap.{happenings_more}
@@ -113,7 +113,7 @@ module _ (t : Tables) (two : IsTwo t) (dist : ℕ → ℕ → ℕ) (d : ℕ) (fa
   replaced_within : (s : Net) (i : ℕ) (xs : List Copy) → All Within s.flying → All Within xs → All Within (take i s.flying ++ (xs ++ drop (i + 1) s.flying))
   replaced_within s i xs all some = All-append Within (take i s.flying) (xs ++ drop (i + 1) s.flying) (All-take Within i s.flying all) (All-append Within xs (drop (i + 1) s.flying) some (All-drop Within (i + 1) s.flying all))
 
-  leads_within : {s s' : Ordered} {e : Event} {us : List Turn} → LeadsInTurn t s e s' us → All Within s.net.flying → All Within s'.net.flying × All (IsDeliveredWithin most) (happenings us)
+  leads_within : {s s' : Ordered} {e : Event} {us : List OrderedHappening} → LeadsInOrder t s e s' us → All Within s.net.flying → All Within s'.net.flying × All (IsDeliveredWithin most) (happenings us)
   leads_within {s = s} (injects {port = p} {w = w} own names) all =
       (All-append Within s.net.flying _ all (All-cons Within _ [] (record { at = far.ports p w own; head = (refl, refl) }) (All-nil Within)), All-nil (IsDeliveredWithin most))
   leads_within {s = s} (moves {i = i} {c = c} {m = m} {a = a} found none does) all =
@@ -135,7 +135,7 @@ module _ (t : Tables) (two : IsTwo t) (dist : ℕ → ℕ → ℕ) (d : ℕ) (fa
           (replaced_within s.net i (left_by c (Waiting q v)) all (All-cons Within _ [] (stayed_within c (s.net.stores c.at) r n q v mine at.comes at.owner (let up : r + 1 ≤ q = here.0 in omega (arith, up)) here.1) (All-nil Within)), All-nil (IsDeliveredWithin most))
   leads_within (waits found at early) all = (all, All-nil (IsDeliveredWithin most))
 
-  runs_within : {s s' : Ordered} {es : List Event} {us : List Turn} → RunsInTurn t s es s' us → All Within s.net.flying → All Within s'.net.flying × All (IsDeliveredWithin most) (happenings us)
+  runs_within : {s s' : Ordered} {es : List Event} {us : List OrderedHappening} → RunsInOrder t s es s' us → All Within s.net.flying → All Within s'.net.flying × All (IsDeliveredWithin most) (happenings us)
   runs_within done all = (all, All-nil (IsDeliveredWithin most))
   runs_within (on {h = u} {hs = us} leads rest) all =
       let first = leads_within leads all in
@@ -147,8 +147,8 @@ still_within a b le (Delivered c port) i = let x : c.hops ≤ a = i in omega (ar
 still_within a b le (Crossed c x h) i = tt
 still_within a b le (Forked c n x) i = tt
 
-pub few_hops_made : (p : Program) (topology : Topology) (places : List ℕ) (t : Tables) → Faithful p topology places t → t.version ≡ 2 → (order : List ℕ) (d : ℕ) → IsRank p.body (length p.vars) order → IsDiameter (Linked topology.links) (length topology.switches) d
-    → (m : Arrays) (es : List Event) (s : Ordered) (us : List Turn) → Overlaps p t m es s us
+pub few_hops_made : (p : Program) (topology : Topology) (places : List ℕ) (t : Tables) → Faithful p topology places t → t.version ≡ 2 → (order : List ℕ) (d : ℕ) → IsRank p.body (length p.arrays) order → IsDiameter (Linked topology.links) (length topology.switches) d
+    → (m : Arrays) (es : List Event) (s : Ordered) (us : List OrderedHappening) → Overlaps p t m es s us
     → All (λ (c : Copy). c.hops ≤ (length order + 1) * d) s.net.flying × All (IsDeliveredWithin ((length order + 1) * d)) (happenings us)
 few_hops_made p topology places t f version order d rank diameter m es s us o =
     let two : IsTwo t = record { form = f.shape.form; valid = f.shape.valid; version = version } in

@@ -2,7 +2,7 @@
 use Rattle.std.proofs.Common.{◌≡◌, ◌≢◌, ℕ, zero, suc, ◌+◌, ◌<◌, ◌≤◌, ⊎_elim, Bool, true, false, cond, List, [], ◌∷◌, length, refl, sym, ap, subst, ◌∙◌, arith, ◌&&◌}
 use Rattle.std.specs.Prelude.{nat_eq, nat_lt}
 use Rattle.std.proofs.lemmas.Bool.{lt-ltb, ltb-true, cond-true, cond-false, and_parts, eqb-true, eqb-false, eq-eqb, cases_lt}
-use Rattle.snap_route.specs.Walks.{IsWalk, IsDistance, IsNext, IsDiameter}
+use Rattle.snap_topology.specs.Walks.{IsWalk, IsDistance, IsNext, IsDiameter}
 use Rattle.snap_rows.specs.declared.tables.Rule.TheVariants.{Loop}
 use Rattle.snap_rows.specs.declared.tables.Tables.{Tables}
 use Rattle.snap_rows.specs.Bound.{distance, hops_within}
@@ -11,8 +11,8 @@ use Rattle.snap_rows.specs.Form.{switch_count}
 use Rattle.snap_rows.specs.Ways.{Way, here, on}
 use Rattle.snap_rows.proofs.Arrives.{next_below, owner_below, way_to}
 use Rattle.snap_rows.proofs.Bounded.{nearer, port_below}
-use Rattle.snap_gen.proofs.Bounds.{HasDistances}
-use Rattle.snap_gen.proofs.Nodes.{IsTwo}
+use Rattle.snap_faithful.proofs.Bounds.{HasDistances}
+use Rattle.snap_faithful.proofs.Nodes.{IsTwo}
 
 module _ (t : Tables) (two : IsTwo t) (joins : ℕ → ℕ → Type 0) (hops : (a b : ℕ) → a < switch_count t → b < switch_count t → a ≢ b → IsNext joins a b (next t a b)) where
   -- where there is a walk, there is not no distance

@@ -1,4 +1,4 @@
--- How the run in turn of a schedule goes on, and its report.
+-- How the run in order of a schedule goes on, and its report.
 use Rattle.std.proofs.Common.{◌≡◌, ◌≢◌, ◌⊎◌, inl, inr, ℕ, ◌+◌, ◌<◌, Bool, true, false, List, [], ◌∷◌, ◌++◌, Some, map, length, reverse, refl, sym, ap, subst, ◌∙◌, arith, append_assoc, append-nil}
 use Rattle.std.specs.Prelude.{slice_index}
 use Rattle.std.proofs.lemmas.List.{length-append, length-map, length-reverse}
@@ -7,16 +7,16 @@ use Rattle.snap_rows.specs.declared.tables.Tables.{Tables}
 use Rattle.snap_rows.specs.Network.{Event, Inject, Step, done, packets_of}
 use Rattle.snap_rows.proofs.Runs.{runs-count, runs-then}
 use Rattle.snap_net.specs.Shown.{flown}
-use Rattle.snap_runs.specs.declared.event.Order.TheVariants as order
+use Rattle.snap_runs.specs.declared.event.Instruction.TheVariants as order
 use Rattle.snap_runs.specs.declared.ready.Ready.{Ready}
 use Rattle.snap_runs.specs.Playing.{packets_in}
 use Rattle.snap_runs.specs.Schedules.{CantBeDone, Spells, nothing, lines_of, order_by}
 use Rattle.snap_runs.proofs.Played.{spells-count}
 use Rattle.snap_runs.proofs.Spelling.{spells-inject, spells-skip, spells-step}
 use Rattle.snap_runs.proofs.Steps.{rests-shown}
-use Rattle.snap_order.specs.declared.play.Play.{Play}
+use Rattle.snap_order.specs.declared.play.OrderedPlay.{OrderedPlay}
 use Rattle.snap_order.specs.Obeying.{HasDone, IsFresh, PlaysLines, SoFar}
-use Rattle.snap_order.specs.Ordered.{Ordered, Turn, LeadsInTurn, RunsInTurn, begin, happenings}
+use Rattle.snap_order.specs.Ordered.{Ordered, OrderedHappening, LeadsInOrder, RunsInOrder, begin, happenings}
 use Rattle.snap_order.specs.Ordered as ordered
 use Rattle.snap_order.specs.Playing.{HasInjected, HasStepped, IsPlaying, Plays, left_in}
 use Rattle.snap_order.specs.Reports.{IsRunReport}
@@ -24,7 +24,7 @@ use Rattle.snap_order.specs.Runs.{EndsEarly, IsScheduleReport, Obeys, StopsAt}
 use Rattle.snap_order.proofs.Playing.{playing_of}
 
 -- before the first line
-pub lines_first : (t : Tables) (hops : Bool) (ks : List (List ℕ)) (v : Play) → Plays t hops (begin t zero_arrays) [] v → left_in v ≡ ks → PlaysLines t hops ks [] v
+pub lines_first : (t : Tables) (hops : Bool) (ks : List (List ℕ)) (v : OrderedPlay) → Plays t hops (begin t zero_arrays) [] v → left_in v ≡ ks → PlaysLines t hops ks [] v
 lines_first t hops ks v plays left = record {
   state = begin t zero_arrays;
   turns = [];
@@ -32,14 +32,14 @@ lines_first t hops ks v plays left = record {
   obeys = record { events = []; spells = subst (Spells [] ks []) (sym left) nothing; run = done };
 }
 
-pub fresh_of : (t : Tables) (hops : Bool) (ks : List (List ℕ)) (v : Play) → PlaysLines t hops ks [] v → IsFresh v
+pub fresh_of : (t : Tables) (hops : Bool) (ks : List (List ℕ)) (v : OrderedPlay) → PlaysLines t hops ks [] v → IsFresh v
 fresh_of t hops ks v p = (ks, subst (λ t'. PlaysLines t' v.hops ks [] v) (sym p.plays.tables) (subst (λ h. PlaysLines t h ks [] v) (sym p.plays.hops_same) p))
 
-pub lines_playing : (t : Tables) (hops : Bool) (ks lines : List (List ℕ)) (v : Play) → PlaysLines t hops ks lines v → IsPlaying v
+pub lines_playing : (t : Tables) (hops : Bool) (ks lines : List (List ℕ)) (v : OrderedPlay) → PlaysLines t hops ks lines v → IsPlaying v
 lines_playing t hops ks lines v p = playing_of t hops p.state p.turns v p.plays
 
 -- ---- a line
-pub done_skip : (line : List ℕ) (v : Play) → order_by line ≡ Some order.Skip → HasDone line v v true
+pub done_skip : (line : List ℕ) (v : OrderedPlay) → order_by line ≡ Some order.Skip → HasDone line v v true
 done_skip line v e t hops ks lines p = record {
   state = p.state;
   turns = p.turns;
@@ -47,7 +47,7 @@ done_skip line v e t hops ks lines p = record {
   obeys = record { events = p.obeys.events; spells = spells-skip line e p.obeys.spells; run = p.obeys.run };
 }
 
-pub done_inject : (line : List ℕ) (old new : Play) → order_by line ≡ Some order.Inject → (b : Bool) → HasInjected old new b → HasDone line old new b
+pub done_inject : (line : List ℕ) (old new : OrderedPlay) → order_by line ≡ Some order.Inject → (b : Bool) → HasInjected old new b → HasDone line old new b
 done_inject line old new e true does = λ t hops ks lines p.
     let a = does t hops p.state p.turns p.plays in
     record {
@@ -57,13 +57,13 @@ done_inject line old new e true does = λ t hops ks lines p.
       obeys = record {
         events = p.obeys.events ++ Inject (slice_index a.packet 0) a.packet ∷ [];
         spells = spells-inject line a.packet (left_in new) e a.next p.obeys.spells;
-        run = subst (λ us. RunsInTurn t (begin t zero_arrays) (p.obeys.events ++ Inject (slice_index a.packet 0) a.packet ∷ []) a.state us) (append-nil p.turns)
+        run = subst (λ us. RunsInOrder t (begin t zero_arrays) (p.obeys.events ++ Inject (slice_index a.packet 0) a.packet ∷ []) a.state us) (append-nil p.turns)
             (runs-then (Inject (slice_index a.packet 0) a.packet) a.state [] p.obeys.run a.leads);
       };
     }
 done_inject line old new e false none = λ t hops ks lines p. subst (λ o. CantBeDone o (left_in old) p.state.net) (sym e) none
 
-pub done_step : (line : List ℕ) (place : ℕ) (old new : Play) → order_by line ≡ Some (order.Step place) → (b : Bool) → HasStepped place old new b → HasDone line old new b
+pub done_step : (line : List ℕ) (place : ℕ) (old new : OrderedPlay) → order_by line ≡ Some (order.Step place) → (b : Bool) → HasStepped place old new b → HasDone line old new b
 done_step line place old new e true does = λ t hops ks lines p.
     let a = does t hops p.state p.turns p.plays in
     record {
@@ -80,9 +80,9 @@ done_step line place old new e false none = λ t hops ks lines p. subst (λ o. C
 
 -- ---- lines
 module _ (t : Tables) (hops : Bool) (ks : List (List ℕ)) where
-  module _ (lines : List (List ℕ)) (rest : List ℕ) (number : ℕ) (v : Play) (s : SoFar t hops ks lines rest number v) where
+  module _ (lines : List (List ℕ)) (rest : List ℕ) (number : ℕ) (v : OrderedPlay) (s : SoFar t hops ks lines rest number v) where
     module _ (line behind : List ℕ) (e : lines_of rest ≡ line ∷ lines_of behind) where
-      pub so_far_more : (v' : Play) → HasDone line v v' true → SoFar t hops ks lines behind (number + 1) v'
+      pub so_far_more : (v' : OrderedPlay) → HasDone line v v' true → SoFar t hops ks lines behind (number + 1) v'
       so_far_more v' does = record {
         done = s.done ++ line ∷ [];
         are = s.are ∙ ap (λ l. s.done ++ l) e ∙ sym (append_assoc s.done (line ∷ []) (lines_of behind));
@@ -90,7 +90,7 @@ module _ (t : Tables) (hops : Bool) (ks : List (List ℕ)) where
         plays = does t hops ks s.done s.plays;
       }
 
-      pub stops_at : (v' : Play) → HasDone line v v' false → StopsAt t ks lines (number + 1)
+      pub stops_at : (v' : OrderedPlay) → HasDone line v v' false → StopsAt t ks lines (number + 1)
       stops_at v' does = record {
         before = s.done;
         line = line;
@@ -133,18 +133,18 @@ module _ (t : Tables) (hops : Bool) (ks : List (List ℕ)) where
           omega (arith, some, same)))
 
 -- ---- the report
-leads_count : (t : Tables) (s s' : Ordered) (e : Event) (u : List Turn) → LeadsInTurn t s e s' u → s'.net.injected ≡ s.net.injected + length (packets_of (e ∷ []))
+leads_count : (t : Tables) (s s' : Ordered) (e : Event) (u : List OrderedHappening) → LeadsInOrder t s e s' u → s'.net.injected ≡ s.net.injected + length (packets_of (e ∷ []))
 leads_count t s s' e u (ordered.injects at first) = refl
 leads_count t s s' e u (ordered.moves is none handles) = omega arith
 leads_count t s s' e u (ordered.visits is before turn takes) = omega arith
 leads_count t s s' e u (ordered.waits is before early) = omega arith
 
-pub schedule_report : (t : Tables) (hops : Bool) (ks lines : List (List ℕ)) (v : Play) (text : List ℕ) (p : PlaysLines t hops ks lines v) → v.waiting.items ≡ [] → v.net.net.flying ≡ []
+pub schedule_report : (t : Tables) (hops : Bool) (ks lines : List (List ℕ)) (v : OrderedPlay) (text : List ℕ) (p : PlaysLines t hops ks lines v) → v.waiting.items ≡ [] → v.net.net.flying ≡ []
     → IsRunReport t hops p.state.net.injected p.state.net (happenings p.turns) text → IsScheduleReport t hops ks lines text
 schedule_report t hops ks lines v text p none rests report =
     let left : left_in v ≡ [] = ap (λ ws. packets_in (reverse ws)) none in
     let a = spells-count p.obeys.spells in
-    let b = runs-count (λ (o : Ordered). o.net) (LeadsInTurn t) (leads_count t) p.obeys.run in
+    let b = runs-count (λ (o : Ordered). o.net) (LeadsInOrder t) (leads_count t) p.obeys.run in
     let c : length (left_in v) ≡ 0 = ap length left in
     let count : p.state.net.injected ≡ length ks = omega (arith, a, b, c) in
     record {

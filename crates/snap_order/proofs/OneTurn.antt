@@ -8,8 +8,8 @@ use Rattle.snap_rows.specs.Entries.{Parts, next, row_at}
 use Rattle.std.proofs.lemmas.Option.{same_Some}
 use Rattle.snap_rows.proofs.OneWay.{follows_one, visits_one}
 use Rattle.snap_core.specs.Tests.{results}
-use Rattle.snap_gen.specs.Agreement.{lost_of, sent_of}
-use Rattle.snap_gen.specs.InTurn.{Becomes, Forks, SentOn, TakesTurns, concludes, seeks, visits, waits}
+use Rattle.snap_faithful.specs.Agreement.{lost_of, sent_of}
+use Rattle.snap_faithful.specs.InOrder.{Becomes, Forks, SentOn, TakesTurns, concludes, seeks, visits, waits}
 use Rattle.snap_rows.specs.Stepping.{ComesTo, visit, walk}
 
 -- ---- ways along rows

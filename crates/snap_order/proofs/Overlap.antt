@@ -1,4 +1,4 @@
--- Runs in turn over faithful tables: where each packet is, and what the switches hold.
+-- Runs in order over faithful tables: where each packet is, and what the switches hold.
 use Rattle.std.proofs.Common.{◌≡◌, ◌≢◌, ℕ, zero, suc, ◌+◌, ◌<◌, ◌≤◌, ◌⊎◌, inl, inr, ⊎_elim, Bool, true, false, cond, List, [], ◌∷◌, ◌++◌, take, drop, get_or, length, Some, refl, sym, ap, subst, ◌∙◌, arith, append_assoc}
 use Rattle.std.specs.Prelude.{slice_get, slice_index, slice_index_or, nat_eq}
 use Rattle.std.proofs.lemmas.Bool.{both_ways, eqb-true, eqb-false, eq-eqb, ne_eqb, cond-true, cond-false, cases_lt}
@@ -13,7 +13,7 @@ use Rattle.snap_core.specs.Meaning.{Meaning, eval}
 use Rattle.snap_core.specs.Packets.{PacketSet}
 use Rattle.snap_core.specs.Switch.{Switched, one_big_switch}
 use Rattle.snap_core.specs.Tests.{results}
-use Rattle.snap_topo.specs.declared.topology.Topology.{Topology}
+use Rattle.snap_topology.specs.declared.topology.Topology.{Topology}
 use Rattle.snap_rows.specs.declared.tables.Tables.{Tables}
 use Rattle.snap_rows.specs.declared.tables.Row.TheVariants.{Last}
 use Rattle.snap_rows.specs.Actions.{Action, Forward, Fork}
@@ -26,19 +26,19 @@ use Rattle.snap_rows.specs.Handles as handles
 use Rattle.snap_rows.specs.Happenings.{deliveries_of, losses_of}
 use Rattle.snap_rows.specs.Network.{Net, Copy, Event, Inject, Step, Happening, stepped, injected, happening, packets_of}
 use Rattle.snap_rows.specs.Network as network
-use Rattle.snap_gen.specs.Agreement.{sent_of, lost_of}
-use Rattle.snap_gen.specs.Chains.{Chain}
-use Rattle.snap_gen.specs.Faithful.{Faithful, IsStoreOf, IsPacketOf, CanEnter, AllCanEnter, packets_in}
-use Rattle.snap_gen.specs.InTurn.{StandsAt, Becomes, SentOn, Waiting, Forks, TakesTurns, HoldsInTurn, IsOnItsChain}
-use Rattle.snap_gen.specs.Visits.{Enters, Chained, begun}
-use Rattle.snap_gen.proofs.Chained.{enters_one, fields_alike}
-use Rattle.snap_gen.proofs.Leaving.{IsQuiet, Leaving, Same, copies_before, copies_of, copies_own, copies_moved, front, back, leaving_begins, leaving_on, leaving_still, others_same, own_leaves, quiet_more, quiet_still}
-use Rattle.snap_gen.proofs.LoneRuns.{is_early, only_one}
-use Rattle.snap_gen.proofs.Nodes.{IsTwo, WalkDoes, visits_first, forks_at_once, walk_does, OutDoes, is_delivered, is_carried, out_does}
-use Rattle.snap_gen.proofs.Switching.{behind, in_pushed, picked_at, switched_more}
-use Rattle.snap_gen.proofs.Turning.{faithful_chains, faithful_stores, faithful_turns, faithful-two}
+use Rattle.snap_faithful.specs.Agreement.{sent_of, lost_of}
+use Rattle.snap_faithful.specs.Chains.{Chain}
+use Rattle.snap_faithful.specs.Faithful.{Faithful, IsStoreOf, IsPacketOf, CanEnter, AllCanEnter, packets_in}
+use Rattle.snap_faithful.specs.InOrder.{StandsAt, Becomes, SentOn, Waiting, Forks, TakesTurns, HoldsInOrder, IsOnItsChain}
+use Rattle.snap_faithful.specs.Visits.{Enters, Chained, begun}
+use Rattle.snap_faithful.proofs.Chained.{enters_one, fields_alike}
+use Rattle.snap_faithful.proofs.Leaving.{IsQuiet, Leaving, Same, copies_before, copies_of, copies_own, copies_moved, front, back, leaving_begins, leaving_on, leaving_still, others_same, own_leaves, quiet_more, quiet_still}
+use Rattle.snap_faithful.proofs.SingleOwnerRuns.{is_unforked, only_one}
+use Rattle.snap_faithful.proofs.Nodes.{IsTwo, WalkDoes, visits_first, forks_at_once, walk_does, OutDoes, is_delivered, is_carried, out_does}
+use Rattle.snap_faithful.proofs.Switching.{behind, in_pushed, picked_at, switched_more}
+use Rattle.snap_faithful.proofs.Turning.{faithful_chains, faithful_stores, faithful_turns, faithful-two}
 use Rattle.snap_rows.specs.Stepping.{ComesTo, visit, walk}
-use Rattle.snap_order.specs.Ordered.{Ordered, Turn, Happens, Stays, Waits, IsBefore, turn_of, visited, LeadsInTurn, injects, moves, visits, waits, RunsInTurn, happenings}
+use Rattle.snap_order.specs.Ordered.{Ordered, OrderedHappening, Happens, Stays, Waits, AwaitsVisit, turn_of, visited, LeadsInOrder, injects, moves, visits, waits, RunsInOrder, happenings}
 use Rattle.snap_order.specs.Turning.{rank_behind}
 use Rattle.snap_order.proofs.Taking.{Counts, counts}
 
@@ -55,13 +55,13 @@ take_more (x ∷ xs) zero (suc (suc n)) e l = absurd (omega (arith, e))
 take_more (x ∷ xs) (suc i) zero e l = absurd (omega (arith, e))
 take_more (x ∷ xs) (suc i) (suc n) e l = ap (λ r. x ∷ r) (take_more xs i n (omega (arith, e)) (let h : suc i < suc (length xs) = l in omega (arith, h)))
 
-pub happenings_more : (us vs : List Turn) → happenings (us ++ vs) ≡ happenings us ++ happenings vs
+pub happenings_more : (us vs : List OrderedHappening) → happenings (us ++ vs) ≡ happenings us ++ happenings vs
 happenings_more [] vs = refl
 happenings_more (Happens h ∷ us) vs = ap (λ l. h ∷ l) (happenings_more us vs)
 happenings_more (Stays c r ∷ us) vs = happenings_more us vs
 happenings_more (Waits c r ∷ us) vs = happenings_more us vs
 
-pub comes_early : {t : Tables} {w : ℕ} {k : List ℕ} {m : Arrays} {head : Head} {r n : ℕ} → ComesTo t w k m head r n → is_early head ≡ true
+pub comes_early : {t : Tables} {w : ℕ} {k : List ℕ} {m : Arrays} {head : Head} {r n : ℕ} → ComesTo t w k m head r n → is_unforked head ≡ true
 comes_early visit = refl
 comes_early (walk some follow) = refl
 
@@ -188,7 +188,7 @@ module _ (p : Program) (topology : Topology) (places : List ℕ) (t : Tables) (f
     walking : port_at t (slice_index (pick i) 0) ≡ Some w → Stands i w (Walk 0) 0
     visiting : {first r v : ℕ} → Enters t (pick i) (before i) first → Chained t (pick i) (before i) first r v → Stands i w (Visit r v) r
 
-  pub stands_early : (i w : ℕ) (head : Head) (r : ℕ) → Stands i w head r → is_early head ≡ true
+  pub stands_early : (i w : ℕ) (head : Head) (r : ℕ) → Stands i w head r → is_unforked head ≡ true
   stands_early i w head r (walking port) = refl
   stands_early i w head r (visiting enters chained) = refl
 
@@ -213,7 +213,7 @@ module _ (p : Program) (topology : Topology) (places : List ℕ) (t : Tables) (f
   -- n packets have been injected
   pub record State (n : ℕ) (s : Net) (h : ℕ → ℕ) (hs : List Happening) : Type 0 where
     pub count : s.injected ≡ n
-    pub held : (w : ℕ) → HoldsInTurn t before w (s.stores w) h
+    pub held : (w : ℕ) → HoldsInOrder t before w (s.stores w) h
     pub most : (q : ℕ) → h q ≤ n
     pub each : (i : ℕ) → i < n → Underway i s h hs ⊎ Gone i s h hs
     pub fresh : (i : ℕ) → n ≤ i → Unseen i s hs
@@ -302,8 +302,8 @@ module _ (p : Program) (topology : Topology) (places : List ℕ) (t : Tables) (f
     comes (walking port) (walk {v = v} some follow) = record { first = v; enters = entered i w v s port follow; chained = begun; rank = refl }
     comes (visiting {first = first} enters chained) visit = record { first = first; enters = enters; chained = chained; rank = refl }
 
-  held_after : (s : Net) (x : ℕ) (m : Arrays) (h h' : ℕ → ℕ) → ((w : ℕ) → HoldsInTurn t before w (s.stores w) h) → HoldsInTurn t before x m h' → ((w q : ℕ) → w ≢ x → rank_at t q ≡ Some w → h' q ≡ h q)
-      → (w : ℕ) → HoldsInTurn t before w (cond (nat_eq w x) m (s.stores w)) h'
+  held_after : (s : Net) (x : ℕ) (m : Arrays) (h h' : ℕ → ℕ) → ((w : ℕ) → HoldsInOrder t before w (s.stores w) h) → HoldsInOrder t before x m h' → ((w q : ℕ) → w ≢ x → rank_at t q ≡ Some w → h' q ≡ h q)
+      → (w : ℕ) → HoldsInOrder t before w (cond (nat_eq w x) m (s.stores w)) h'
   held_after s x m h h' held here far w q at = by (nat_eq w x) refl
     where
       by : (b : Bool) → nat_eq w x ≡ b → cond (nat_eq w x) m (s.stores w) q ≡ before (h' (rank_of t q.var)) q
@@ -319,7 +319,7 @@ module _ (p : Program) (topology : Topology) (places : List ℕ) (t : Tables) (f
     number_low = let b = below in omega (arith, b, few)
 
     -- for its own packet what is so, and for the others what was
-    rebuilt : (s' : Net) (h' : ℕ → ℕ) (hs' : List Happening) → s'.injected ≡ s.injected → ((w : ℕ) → HoldsInTurn t before w (s'.stores w) h') → ((q : ℕ) → h' q ≤ n) → ((i : ℕ) → x.number ≢ i → Same i s s' hs hs')
+    rebuilt : (s' : Net) (h' : ℕ → ℕ) (hs' : List Happening) → s'.injected ≡ s.injected → ((w : ℕ) → HoldsInOrder t before w (s'.stores w) h') → ((q : ℕ) → h' q ≤ n) → ((i : ℕ) → x.number ≢ i → Same i s s' hs hs')
         → ((i r : ℕ) → x.number ≢ i → Passed h i r → Passed h' i r) → (Underway x.number s' h' hs' ⊎ Gone x.number s' h' hs') → State n s' h' hs'
     rebuilt s' h' hs' count held most others passed own = record {
       count = count ∙ st.count;
@@ -387,7 +387,7 @@ module _ (p : Program) (topology : Topology) (places : List ℕ) (t : Tables) (f
     others_step : (m : Arrays) (a : Action) (i : ℕ) → x.number ≢ i → Same i s (stepped s j x m a) hs (hs ++ happening x a ∷ [])
     others_step m a i ne = others_same s x j found i m a hs ne
 
-    no_visit : {m : Arrays} {a : Action} → ((r v : ℕ) → ¬ IsBefore t s x r v) → Handles t x.at x.packet (s.stores x.at) x.head m a → Underway x.number s h hs ⊎ Gone x.number s h hs → State n (stepped s j x m a) h (hs ++ happening x a ∷ [])
+    no_visit : {m : Arrays} {a : Action} → ((r v : ℕ) → ¬ AwaitsVisit t s x r v) → Handles t x.at x.packet (s.stores x.at) x.head m a → Underway x.number s h hs ⊎ Gone x.number s h hs → State n (stepped s j x m a) h (hs ++ happening x a ∷ [])
     no_visit {m = m} {a = a} none does (inr g) =
         rebuilt (stepped s j x m a) h (hs ++ happening x a ∷ []) refl (held_after s x.at m h h st.held (same_store out) (λ w q ne at. refl)) st.most (others_step m a) (λ i r ne q. q)
         (inr (record { leaving = λ o e. leaving_on s x j found out (g.leaving o e); passed = g.passed }))
@@ -398,7 +398,7 @@ module _ (p : Program) (topology : Topology) (places : List ℕ) (t : Tables) (f
         out : OutDoes (slice_index x.packet 1) (s.stores x.at) m a
         out = out_does (subst (λ y. Handles t x.at x.packet (s.stores x.at) y m a) (own_leaves s x j found ((g.leaving o.outcome o.is).out)) does)
 
-        same_store : {b : Arrays} {d : Action} → OutDoes (slice_index x.packet 1) (s.stores x.at) b d → HoldsInTurn t before x.at b h
+        same_store : {b : Arrays} {d : Action} → OutDoes (slice_index x.packet 1) (s.stores x.at) b d → HoldsInOrder t before x.at b h
         same_store is_delivered = st.held x.at
         same_store is_carried = st.held x.at
     no_visit {m = m} {a = a} none does (inl u) = by (goes x.number x.at (s.stores x.at) (stands u) none_here (subst (λ k. Handles t x.at k (s.stores x.at) x.head m a) (packet u) does))
@@ -420,13 +420,13 @@ module _ (p : Program) (topology : Topology) (places : List ℕ) (t : Tables) (f
             c.forks w v us os (subst (λ y. Chained t (pick x.number) (before x.number) y (ranks t) v) (enters_one t (pick x.number) (before x.number) first c.first enters c.enters) (subst (λ r. Chained t (pick x.number) (before x.number) first r v) top chained)) row))
             (subst (Passed h x.number) top u.passed)))
 
-    -- ---- visits in turn
-    in_turn : {r v : ℕ} {m : Arrays} {h' : ℕ → ℕ} {b : Becomes} → IsBefore t s x r v → h r ≡ x.number → TakesTurns t x.at x.packet x.number (s.stores x.at) h r v m h' b → Underway x.number s h hs ⊎ Gone x.number s h hs
+    -- ---- visits in order
+    in_order : {r v : ℕ} {m : Arrays} {h' : ℕ → ℕ} {b : Becomes} → AwaitsVisit t s x r v → h r ≡ x.number → TakesTurns t x.at x.packet x.number (s.stores x.at) h r v m h' b → Underway x.number s h hs ⊎ Gone x.number s h hs
         → State n (visited (record { net = s; handled = h }) j x m h' b).net h' (hs ++ happenings (turn_of x b ∷ []))
-    in_turn before_it turn takes (inr g) =
+    in_order before_it turn takes (inr g) =
         let o = acted x.number number_low in
-        absurd (both_ways _ (ap is_early (own_leaves s x j found ((g.leaving o.outcome o.is).out))) (comes_early before_it.comes))
-    in_turn {r = r} {v = v} {m = m} {h' = h'} {b = b} before_it turn takes (inl u) = by b keeps.1 (own_passed count (subst (Passed h x.number) to.rank u.passed)) (held_after s x.at m h h' st.held keeps.0 (elsewhere count)) (most_after count n below st.most)
+        absurd (both_ways _ (ap is_unforked (own_leaves s x j found ((g.leaving o.outcome o.is).out))) (comes_early before_it.comes))
+    in_order {r = r} {v = v} {m = m} {h' = h'} {b = b} before_it turn takes (inl u) = by b keeps.1 (own_passed count (subst (Passed h x.number) to.rank u.passed)) (held_after s x.at m h h' st.held keeps.0 (elsewhere count)) (most_after count n below st.most)
       where
         o : Acted x.number
         o = acted x.number number_low
@@ -440,13 +440,13 @@ module _ (p : Program) (topology : Topology) (places : List ℕ) (t : Tables) (f
         to : Comes x.number x.at (s.stores x.at) u.rank r v
         to = comes x.number x.at (s.stores x.at) (stands u) (subst (λ k. ComesTo t x.at k (s.stores x.at) x.head r v) (packet u) before_it.comes)
 
-        keeps : HoldsInTurn t before x.at m h' × IsOnItsChain t (pick x.number) (before x.number) o.outcome to.first b × ((q : Place) → (StandsAt t x.at q.var → ⊥) → m q ≡ s.stores x.at q)
+        keeps : HoldsInOrder t before x.at m h' × IsOnItsChain t (pick x.number) (before x.number) o.outcome to.first b × ((q : Place) → (StandsAt t x.at q.var → ⊥) → m q ≡ s.stores x.at q)
         keeps =
             let c = enters_at x.number number_low in
             faithful_turns p topology places t f version before x.number c.0 (pick x.number) o.outcome (after x.number).2 c.1 o.is (λ q. ap (λ (y : Arrays). y q) o.arrays) to.first to.enters x.at r v (s.stores x.at) m h h' b to.chained (st.held x.at) mine
 
         by : (b : Becomes) → IsOnItsChain t (pick x.number) (before x.number) o.outcome to.first b → Passed h' x.number (rank_behind t b)
-            → ((w : ℕ) → HoldsInTurn t before w (cond (nat_eq w x.at) m (s.stores w)) h') → ((q : ℕ) → h' q ≤ n)
+            → ((w : ℕ) → HoldsInOrder t before w (cond (nat_eq w x.at) m (s.stores w)) h') → ((q : ℕ) → h' q ≤ n)
             → State n (visited (record { net = s; handled = h }) j x m h' b).net h' (hs ++ happenings (turn_of x b ∷ []))
         by (SentOn y q w) chained passed held most =
             rebuilt (stepped s j x m (Forward y (Visit q w))) h' (hs ++ happening x (Forward y (Visit q w)) ∷ []) refl held most (others_step m (Forward y (Visit q w))) (λ i r ne a. other_passed count i r ne a)
@@ -463,12 +463,12 @@ module _ (p : Program) (topology : Topology) (places : List ℕ) (t : Tables) (f
             (λ a e. (let same : o.outcome ≡ a = same_Some o.outcome a (sym o.is ∙ e) in (so.0 ∙ ap (λ (y : Meaning). sent_of t y.packets) same, so.1 ∙ ap (λ (y : Meaning). lost_of t y.packets) same))) passed))
 
   -- ---- runs
-  one_step : (n : ℕ) → n ≤ length all → (s s' : Ordered) (hs : List Happening) (us : List Turn) (j : ℕ) → State n s.net s.handled hs → LeadsInTurn t s (Step j) s' us → State n s'.net s'.handled (hs ++ happenings us)
+  one_step : (n : ℕ) → n ≤ length all → (s s' : Ordered) (hs : List Happening) (us : List OrderedHappening) (j : ℕ) → State n s.net s.handled hs → LeadsInOrder t s (Step j) s' us → State n s'.net s'.handled (hs ++ happenings us)
   one_step n few s s' hs us j st (moves {c = c} found none does) = no_visit n few s.net s.handled hs st c j found none does (st.each c.number (below n few s.net s.handled hs st c j found))
-  one_step n few s s' hs us j st (visits {c = c} found at turn takes) = in_turn n few s.net s.handled hs st c j found at turn takes (st.each c.number (below n few s.net s.handled hs st c j found))
+  one_step n few s s' hs us j st (visits {c = c} found at turn takes) = in_order n few s.net s.handled hs st c j found at turn takes (st.each c.number (below n few s.net s.handled hs st c j found))
   one_step n few s s' hs us j st (waits found at early) = subst (State n s.net s.handled) (sym (append-nil hs)) st
 
-  pub all_events : (pre : List (List ℕ)) (hs : List Happening) {s s' : Ordered} {es : List Event} {us : List Turn} → pre ++ packets_in (packets_of es) ≡ all → State (length pre) s.net s.handled hs → RunsInTurn t s es s' us
+  pub all_events : (pre : List (List ℕ)) (hs : List Happening) {s s' : Ordered} {es : List Event} {us : List OrderedHappening} → pre ++ packets_in (packets_of es) ≡ all → State (length pre) s.net s.handled hs → RunsInOrder t s es s' us
       → State (length all) s'.net s'.handled (hs ++ happenings us)
   all_events pre hs {s = s} is st network.done =
       subst (λ n. State n s.net s.handled (hs ++ [])) (ap length (sym (append-nil pre) ∙ is)) (subst (State (length pre) s.net s.handled) (sym (append-nil hs)) st)

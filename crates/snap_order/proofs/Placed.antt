@@ -1,4 +1,4 @@
--- Copies stay in their places in runs in turn, and their packets as long as they are.
+-- Copies stay in their places in runs in order, and their packets as long as they are.
 use Rattle.std.proofs.Common.{◌≡◌, ℕ, ◌+◌, ◌<◌, List, [], ◌++◌, Some, take, drop, length, refl, ◌∙◌}
 use Rattle.std.specs.List.{All}
 use Rattle.std.proofs.lemmas.List.Elements.{All-append, All-cons, All-drop, All-map, All-nil, All-take}
@@ -20,12 +20,12 @@ use Rattle.snap_rows.proofs.Bounded.{port_below, port_home}
 use Rattle.snap_rows.proofs.Later.{rank_is_below}
 use Rattle.snap_rows.proofs.Rows.{All-get}
 use Rattle.snap_net.specs.declared.flying.Flying.{Flying}
-use Rattle.snap_net.specs.Shown.{Held, IsHeld, Shows}
-use Rattle.snap_gen.specs.InTurn.{Becomes, SentOn, Waiting, Forks, TakesTurns}
-use Rattle.snap_gen.proofs.Chained.{home_first}
-use Rattle.snap_gen.proofs.Nodes.{IsTwo}
+use Rattle.snap_net.specs.Shown.{NetView, IsNetView, Represents}
+use Rattle.snap_faithful.specs.InOrder.{Becomes, SentOn, Waiting, Forks, TakesTurns}
+use Rattle.snap_faithful.proofs.Chained.{home_first}
+use Rattle.snap_faithful.proofs.Nodes.{IsTwo}
 use Rattle.snap_runs.proofs.Steps.{held-shown}
-use Rattle.snap_order.specs.Ordered.{Ordered, Turn, IsBefore, LeadsInTurn, left_by, injects, moves, visits, waits}
+use Rattle.snap_order.specs.Ordered.{Ordered, OrderedHappening, AwaitsVisit, LeadsInOrder, left_by, injects, moves, visits, waits}
 use Rattle.snap_order.proofs.Taking.{stays_at_home, turn_handles}
 
 -- a head that comes to a visit is at home there
@@ -38,7 +38,7 @@ pub record Placed (t : Tables) (c : Copy) : Type 0 where
   pub at : c.at < switch_count t
   pub home : AtHome t c.at c.head
 
-pub placed_shown : (v : Held) (s : _) → IsHeld v → Shows v s → All (Placed v.tables) s.flying
+pub placed_shown : (v : NetView) (s : _) → IsNetView v → Represents v s → All (Placed v.tables) s.flying
 placed_shown v s held shows =
     let at = held-shown (λ (c : Flying). c.at < switch_count v.tables) v s shows held.places in
     let home = held-shown (λ (c : Flying). AtHome v.tables c.at c.head) v s shows held.homes in
@@ -48,7 +48,7 @@ placed_shown v s held shows =
 abbrev pub IsLong : ℕ → Copy → Type 0
 IsLong n c = length c.packet ≡ n
 
-pub long_shown : (v : Held) (s : _) → IsHeld v → Shows v s → All (IsLong (comps v.tables)) s.flying
+pub long_shown : (v : NetView) (s : _) → IsNetView v → Represents v s → All (IsLong (comps v.tables)) s.flying
 long_shown v s held shows = held-shown (λ (c : Flying). length c.packet ≡ comps v.tables) v s shows held.packets
 
 -- others in the place of a copy
@@ -69,20 +69,20 @@ module _ (t : Tables) (two : IsTwo t) where
   acted_placed : (c : Copy) (s m : Arrays) (a : Action) → Placed t c → Handles t c.at c.packet s c.head m a → All (Placed t) (moved c a)
   acted_placed c s m a p does = moved_placed c a p (arrived c s m a p does)
 
-  turned_placed : (s : Ordered) (c : Copy) {r n : ℕ} {m : Arrays} {h : ℕ → ℕ} (b : Becomes) → Placed t c → IsBefore t s.net c r n → TakesTurns t c.at c.packet c.number (s.net.stores c.at) s.handled r n m h b → All (Placed t) (left_by c b)
+  turned_placed : (s : Ordered) (c : Copy) {r n : ℕ} {m : Arrays} {h : ℕ → ℕ} (b : Becomes) → Placed t c → AwaitsVisit t s.net c r n → TakesTurns t c.at c.packet c.number (s.net.stores c.at) s.handled r n m h b → All (Placed t) (left_by c b)
   turned_placed s c {m = m} (SentOn y q v) p before takes = acted_placed c (s.net.stores c.at) m (Forward y (Visit q v)) p (turn_handles t c.at c.packet c.number two.version before.comes takes (Forward y (Visit q v)) refl)
   turned_placed s c {m = m} (Forks copies lost) p before takes = acted_placed c (s.net.stores c.at) m (Fork copies lost) p (turn_handles t c.at c.packet c.number two.version before.comes takes (Fork copies lost) refl)
   turned_placed s c (Waiting q v) p before takes =
       All-cons (Placed t) _ [] (record { at = p.at; home = (two.version, stays_at_home t c.at c.packet c.number two (due_home two p.home before.comes before.owner) takes) }) (All-nil (Placed t))
 
-  pub step_placed : {s s' : Ordered} {j : ℕ} {us : List Turn} → LeadsInTurn t s (Step j) s' us → All (Placed t) s.net.flying → All (Placed t) s'.net.flying
+  pub step_placed : {s s' : Ordered} {j : ℕ} {us : List OrderedHappening} → LeadsInOrder t s (Step j) s' us → All (Placed t) s.net.flying → All (Placed t) s'.net.flying
   step_placed {s = s} (moves {i = i} {c = c} {m = m} {a = a} is none does) all =
       replaced (Placed t) s.net.flying i (moved c a) all (acted_placed c (s.net.stores c.at) m a (All-get (Placed t) s.net.flying i c all is) does)
   step_placed {s = s} (visits {i = i} {c = c} {b = b} is before turn takes) all =
       replaced (Placed t) s.net.flying i (left_by c b) all (turned_placed s c b (All-get (Placed t) s.net.flying i c all is) before takes)
   step_placed (waits is before early) all = all
 
-  pub inject_placed : {s s' : Ordered} {port : ℕ} {k : List ℕ} {us : List Turn} → LeadsInTurn t s (Inject port k) s' us → All (Placed t) s.net.flying → All (Placed t) s'.net.flying
+  pub inject_placed : {s s' : Ordered} {port : ℕ} {k : List ℕ} {us : List OrderedHappening} → LeadsInOrder t s (Inject port k) s' us → All (Placed t) s.net.flying → All (Placed t) s'.net.flying
   inject_placed {s = s} (injects {port = port} {w = w} at first) all =
       All-append (Placed t) s.net.flying _ all (All-cons (Placed t) _ [] (record { at = port_below t two.form port w at; home = port_home t two.valid port w at }) (All-nil (Placed t)))
 
@@ -92,13 +92,13 @@ module _ (t : Tables) (two : IsTwo t) where
   moved_long n c (Deliver port) long there = All-nil (IsLong n)
   moved_long n c (Fork copies lost) long there = All-map (IsLong n) (λ (x : Sent). record c { head = Out x.port; packet = x.packet; steps = c.steps + 1 }) copies (λ j d l. (there j d l).long ∙ long)
 
-  turned_long : (n : ℕ) (s : Ordered) (c : Copy) {r v : ℕ} {m : Arrays} {h : ℕ → ℕ} (b : Becomes) → Placed t c → IsLong n c → IsBefore t s.net c r v → TakesTurns t c.at c.packet c.number (s.net.stores c.at) s.handled r v m h b → All (IsLong n) (left_by c b)
+  turned_long : (n : ℕ) (s : Ordered) (c : Copy) {r v : ℕ} {m : Arrays} {h : ℕ → ℕ} (b : Becomes) → Placed t c → IsLong n c → AwaitsVisit t s.net c r v → TakesTurns t c.at c.packet c.number (s.net.stores c.at) s.handled r v m h b → All (IsLong n) (left_by c b)
   turned_long n s c (SentOn y q v) p long before takes = All-cons (IsLong n) _ [] long (All-nil (IsLong n))
   turned_long n s c (Waiting q v) p long before takes = All-cons (IsLong n) _ [] long (All-nil (IsLong n))
   turned_long n s c {m = m} (Forks copies lost) p long before takes =
       moved_long n c (Fork copies lost) long (arrived c (s.net.stores c.at) m (Fork copies lost) p (turn_handles t c.at c.packet c.number two.version before.comes takes (Fork copies lost) refl))
 
-  pub step_keeps_long : {s s' : Ordered} {j : ℕ} {us : List Turn} (n : ℕ) → LeadsInTurn t s (Step j) s' us → All (Placed t) s.net.flying → All (IsLong n) s.net.flying → All (IsLong n) s'.net.flying
+  pub step_keeps_long : {s s' : Ordered} {j : ℕ} {us : List OrderedHappening} (n : ℕ) → LeadsInOrder t s (Step j) s' us → All (Placed t) s.net.flying → All (IsLong n) s.net.flying → All (IsLong n) s'.net.flying
   step_keeps_long {s = s} n (moves {i = i} {c = c} {m = m} {a = a} is none does) all long =
       replaced (IsLong n) s.net.flying i (moved c a) long
       (moved_long n c a (All-get (IsLong n) s.net.flying i c long is) (arrived c (s.net.stores c.at) m a (All-get (Placed t) s.net.flying i c all is) does))

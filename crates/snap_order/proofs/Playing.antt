@@ -1,4 +1,4 @@
--- How a run in turn goes on.
+-- How a run in order goes on.
 use Rattle.std.proofs.Common.{◌≡◌, ◌⊎◌, inl, inr, ℕ, ◌+◌, ◌<◌, Bool, true, false, List, [], ◌∷◌, ◌++◌, Option, Some, get_or, take, drop, length, reverse, refl, sym, ap, subst, ◌∙◌, arith}
 use Rattle.std.specs.Prelude.{is_some, slice_get}
 use Rattle.std.specs.List.{All}
@@ -14,8 +14,8 @@ use Rattle.snap_rows.specs.Form.{comps}
 use Rattle.snap_rows.specs.Network.{Copy, Inject, Step, Crossed, Forked, happening, moved}
 use Rattle.snap_rows.proofs.Rows.{All-get}
 use Rattle.snap_net.specs.declared.flying.Flying.{Flying}
-use Rattle.snap_net.specs.Shown.{IsHeld}
-use Rattle.snap_gen.specs.InTurn.{Becomes, SentOn, Waiting, Forks}
+use Rattle.snap_net.specs.Shown.{IsNetView}
+use Rattle.snap_faithful.specs.InOrder.{Becomes, SentOn, Waiting, Forks}
 use Rattle.snap_runs.specs.declared.frames.Frames.TheVariants.{Numbered}
 use Rattle.snap_runs.specs.declared.ready.Ready.{Ready}
 use Rattle.snap_runs.specs.declared.tally.Tally.{Tally}
@@ -23,18 +23,18 @@ use Rattle.snap_runs.specs.Playing.{IsLong, IsReady, packets_in}
 use Rattle.snap_rows.specs.Happenings.{number_of}
 use Rattle.snap_runs.proofs.Blocks.{in_pushed}
 use Rattle.snap_runs.proofs.Steps.{held-shown, moved_numbers, number_of-happening}
-use Rattle.snap_runs.specs.Tallies.{IsThere, owner_by}
-use Rattle.snap_runs.proofs.Playing.{elsewhere, owner_by-moving, tally_fresh}
-use Rattle.snap_order.specs.declared.play.Play.{Play}
+use Rattle.snap_runs.specs.Tallies.{IsThere, number_by}
+use Rattle.snap_runs.proofs.Playing.{elsewhere, number_by-moving, tally_fresh}
+use Rattle.snap_order.specs.declared.play.OrderedPlay.{OrderedPlay}
 use Rattle.snap_net.specs.declared.happened.Moved.{Moved}
-use Rattle.snap_order.specs.Ordered.{Ordered, Turn, Happens, Stays, Waits, LeadsInTurn, begin, happenings, injects, left_by, moves, turn_of, visits, waits}
-use Rattle.snap_order.specs.Playing.{HasInjected, HasStepped, IsPlaying, IsTally, NotesTurn, OwnerIsBelow, Plays, left_in}
-use Rattle.snap_order.specs.Shown.{IsDoneInTurn, NoTurn, ShowsInTurn, StandsTurn, TellsTurn, told_of}
+use Rattle.snap_order.specs.Ordered.{Ordered, OrderedHappening, Happens, Stays, Waits, LeadsInOrder, begin, happenings, injects, left_by, moves, turn_of, visits, waits}
+use Rattle.snap_order.specs.Playing.{HasInjected, HasStepped, IsPlaying, IsTally, NotesTurn, NumberIsBelow, Plays, left_in}
+use Rattle.snap_order.specs.Shown.{SimulatesInOrder, NoTurn, RepresentsInOrder, StandsTurn, TellsTurn, told_of}
 use Rattle.snap_order.proofs.There.{turn_stands, turn_there}
 use Rattle.snap_order.proofs.Tallied.{Tallied, step_long, tallied_turn}
 
 -- ---- before the first event
-pub plays_first : (t : Tables) (hops : Bool) (packets : List Ready) (v : Play) → v.net.net.tables ≡ t → v.hops ≡ hops → ShowsInTurn v.net (begin t zero_arrays) → v.tallies.items ≡ [] → v.waiting.items ≡ reverse packets → All (IsReady t) packets
+pub plays_first : (t : Tables) (hops : Bool) (packets : List Ready) (v : OrderedPlay) → v.net.net.tables ≡ t → v.hops ≡ hops → RepresentsInOrder v.net (begin t zero_arrays) → v.tallies.items ≡ [] → v.waiting.items ≡ reverse packets → All (IsReady t) packets
     → Plays t hops (begin t zero_arrays) [] v
 plays_first t hops packets v tables same shows none waiting ready = record {
   tables = tables;
@@ -48,18 +48,18 @@ plays_first t hops packets v tables same shows none waiting ready = record {
   ready = subst (All (IsReady t)) (sym waiting) (All-permutation (IsReady t) packets (reverse packets) (IsPermutation-reverse packets) ready);
 }
 
-pub left_first : (packets : List Ready) (v : Play) → v.waiting.items ≡ reverse packets → left_in v ≡ packets_in packets
+pub left_first : (packets : List Ready) (v : OrderedPlay) → v.waiting.items ≡ reverse packets → left_in v ≡ packets_in packets
 left_first packets v waiting = ap packets_in (ap reverse waiting ∙ reverse-reverse packets)
 
 -- ---- numbers of packets
 -- of the copy to which a turn happens
-abbrev number_in : Turn → ℕ
+abbrev number_in : OrderedHappening → ℕ
 number_in (Happens h) = number_of h
 number_in (Stays c r) = c.number
 number_in (Waits c r) = c.number
 
-number_told : (u : Turn) → number_in u ≡ owner_by (told_of u)
-number_told (Happens h) = sym (owner_by-moving h)
+number_told : (u : OrderedHappening) → number_in u ≡ number_by (told_of u)
+number_told (Happens h) = sym (number_by-moving h)
 number_told (Stays c r) = refl
 number_told (Waits c r) = refl
 
@@ -91,7 +91,7 @@ module _ (P : ℕ → Type 0) where
       All-append Q (take k cs) (xs ++ drop (k + 1) cs) (All-take Q k cs all) (All-append Q xs (drop (k + 1) cs) some (All-drop Q (k + 1) cs all))
 
   -- what holds of the numbers of all copies holds of the one to which a step happens, and of those behind it
-  pub step_numbers : {t : Tables} {s s' : Ordered} {j : ℕ} {us : List Turn} → All (λ (c : Copy). P c.number) s.net.flying → LeadsInTurn t s (Step j) s' us → All (λ (c : Copy). P c.number) s'.net.flying × All (λ h. P (number_of h)) (happenings us)
+  pub step_numbers : {t : Tables} {s s' : Ordered} {j : ℕ} {us : List OrderedHappening} → All (λ (c : Copy). P c.number) s.net.flying → LeadsInOrder t s (Step j) s' us → All (λ (c : Copy). P c.number) s'.net.flying × All (λ h. P (number_of h)) (happenings us)
   step_numbers {s = s} all (moves {i = i} {c = c} {a = a} is none handles) =
       let here : P c.number = All-get (λ (c : Copy). P c.number) s.net.flying i c all is in
       (replaced s.net.flying i (moved c a) all (moved_numbers P c a here), All-cons (λ h. P (number_of h)) (happening c a) [] (number_of-happening P c a here) (All-nil (λ h. P (number_of h))))
@@ -101,21 +101,21 @@ module _ (P : ℕ → Type 0) where
   step_numbers all (waits is before early) = (all, All-nil (λ h. P (number_of h)))
 
 -- so does of the packet of which it is told
-turn_owner_of : (P : ℕ → Type 0) (u v : Turn) (c : Copy) → P c.number → number_in u ≡ c.number → u ∷ [] ≡ v ∷ [] → P (owner_by (told_of v))
-turn_owner_of P u v c here own same = subst P (sym own ∙ number_told u ∙ ap (λ w. owner_by (told_of w)) (ap (λ l. get_or l 0 v) same)) here
+turn_number_of : (P : ℕ → Type 0) (u v : OrderedHappening) (c : Copy) → P c.number → number_in u ≡ c.number → u ∷ [] ≡ v ∷ [] → P (number_by (told_of v))
+turn_number_of P u v c here own same = subst P (sym own ∙ number_told u ∙ ap (λ w. number_by (told_of w)) (ap (λ l. get_or l 0 v) same)) here
 
-pub turn_owner : (P : ℕ → Type 0) {t : Tables} {s s' : Ordered} {j : ℕ} {us : List Turn} → All (λ (c : Copy). P c.number) s.net.flying → LeadsInTurn t s (Step j) s' us → (u : Turn) → us ≡ u ∷ [] → P (owner_by (told_of u))
-turn_owner P {s = s} all (moves {i = i} {c = c} {a = a} is none handles) u one = turn_owner_of P (Happens (happening c a)) u c (All-get (λ (c : Copy). P c.number) s.net.flying i c all is) (number_made c a) one
-turn_owner P {s = s} all (visits {i = i} {c = c} {b = b} is before turn takes) u one = turn_owner_of P (turn_of c b) u c (All-get (λ (c : Copy). P c.number) s.net.flying i c all is) (number_turned c b) one
-turn_owner P {s = s} all (waits {i = i} {c = c} {r = r} is before early) u one = turn_owner_of P (Waits c r) u c (All-get (λ (c : Copy). P c.number) s.net.flying i c all is) refl one
+pub turn_number : (P : ℕ → Type 0) {t : Tables} {s s' : Ordered} {j : ℕ} {us : List OrderedHappening} → All (λ (c : Copy). P c.number) s.net.flying → LeadsInOrder t s (Step j) s' us → (u : OrderedHappening) → us ≡ u ∷ [] → P (number_by (told_of u))
+turn_number P {s = s} all (moves {i = i} {c = c} {a = a} is none handles) u one = turn_number_of P (Happens (happening c a)) u c (All-get (λ (c : Copy). P c.number) s.net.flying i c all is) (number_made c a) one
+turn_number P {s = s} all (visits {i = i} {c = c} {b = b} is before turn takes) u one = turn_number_of P (turn_of c b) u c (All-get (λ (c : Copy). P c.number) s.net.flying i c all is) (number_turned c b) one
+turn_number P {s = s} all (waits {i = i} {c = c} {r = r} is before early) u one = turn_number_of P (Waits c r) u c (All-get (λ (c : Copy). P c.number) s.net.flying i c all is) refl one
 
-pub step_injected : {t : Tables} {s s' : Ordered} {j : ℕ} {us : List Turn} → LeadsInTurn t s (Step j) s' us → s'.net.injected ≡ s.net.injected
+pub step_injected : {t : Tables} {s s' : Ordered} {j : ℕ} {us : List OrderedHappening} → LeadsInOrder t s (Step j) s' us → s'.net.injected ≡ s.net.injected
 step_injected (moves is none handles) = refl
 step_injected (visits is before turn takes) = refl
 step_injected (waits is before early) = refl
 
 -- an injected copy has the next number
-inject_numbers : {t : Tables} {s s' : Ordered} {port : ℕ} {k : List ℕ} {us : List Turn} → All (λ (c : Copy). c.number < s.net.injected) s.net.flying → LeadsInTurn t s (Inject port k) s' us
+inject_numbers : {t : Tables} {s s' : Ordered} {port : ℕ} {k : List ℕ} {us : List OrderedHappening} → All (λ (c : Copy). c.number < s.net.injected) s.net.flying → LeadsInOrder t s (Inject port k) s' us
     → All (λ (c : Copy). c.number < s'.net.injected) s'.net.flying × (s'.net.injected ≡ s.net.injected + 1)
 inject_numbers {s = s} {k = k} all (injects {w = w} at first) =
     let c : Copy = record { number = s.net.injected; at = w; head = Walk 0; packet = k; hops = 0; steps = 0 } in
@@ -123,19 +123,19 @@ inject_numbers {s = s} {k = k} all (injects {w = w} at first) =
     (All-push P s.net.flying c (All-weaker (λ (d : Copy). d.number < s.net.injected) P (λ d less. omega (arith, less)) s.net.flying all) (omega arith), refl)
 
 -- ---- the next packet is injected
-module _ (old new : Play) (r : Ready) (rest : List Ready) (y : Tally) (stood : old.waiting.items ≡ rest ++ r ∷ []) (left : new.waiting.items ≡ rest) (does : IsDoneInTurn old.net (Inject r.port r.packet) new.net NoTurn)
+module _ (old new : OrderedPlay) (r : Ready) (rest : List Ready) (y : Tally) (stood : old.waiting.items ≡ rest ++ r ∷ []) (left : new.waiting.items ≡ rest) (does : SimulatesInOrder old.net (Inject r.port r.packet) new.net NoTurn)
     (same : new.net.net.tables ≡ old.net.net.tables) (same_hops : new.hops ≡ old.hops) (more : new.tallies.items ≡ old.tallies.items ++ y ∷ []) (d : y.delivered.items ≡ []) (l : y.lost ≡ 0) (h : y.hops.items ≡ []) where
   pub plays_inject : HasInjected old new true
   plays_inject t hops s us p =
       let n = s.net.injected in
-      let a = subst (λ t'. (s' : Ordered) × (ts : List Turn) × LeadsInTurn t' s (Inject r.port r.packet) s' ts × ShowsInTurn new.net s' × (ts ≡ [])) p.tables (does s p.shows) in
+      let a = subst (λ t'. (s' : Ordered) × (ts : List OrderedHappening) × LeadsInOrder t' s (Inject r.port r.packet) s' ts × RepresentsInOrder new.net s' × (ts ≡ [])) p.tables (does s p.shows) in
       let numbers = inject_numbers p.below a.2 in
       let popped = All-pop (IsReady t) old.waiting.items rest (Some r) stood p.ready in
       record {
         packet = r.packet;
         next = ap (λ ws. packets_in (reverse ws)) stood ∙ ap packets_in (reverse-append rest (r ∷ [])) ∙ ap (λ ws. r.packet ∷ packets_in (reverse ws)) (sym left);
         state = a.0;
-        leads = subst (λ q. LeadsInTurn t s (Inject q r.packet) a.0 []) (sym popped.1.first) (subst (LeadsInTurn t s (Inject r.port r.packet) a.0) a.4 a.2);
+        leads = subst (λ q. LeadsInOrder t s (Inject q r.packet) a.0 []) (sym popped.1.first) (subst (LeadsInOrder t s (Inject r.port r.packet) a.0) a.4 a.2);
         plays = record {
           tables = same ∙ p.tables;
           hops_same = same_hops ∙ p.hops_same;
@@ -158,9 +158,9 @@ module _ (old new : Play) (r : Ready) (rest : List Ready) (y : Tally) (stood : o
       long i z (inr k) = subst (IsLong (comps t)) k.1 (subst (All (λ x. length x ≡ comps t)) (sym d) (All-nil (λ x. length x ≡ comps t)))
 
 -- ---- a copy makes a step
-module _ (old new : Play) (place : ℕ) (told : Moved) (held : IsHeld old.net.net) (does : IsDoneInTurn old.net (Step place) new.net (TellsTurn told)) (notes : NotesTurn old.hops old.net.net.tables.switches new.net.net.flying place told old.tallies.items new.tallies.items)
+module _ (old new : OrderedPlay) (place : ℕ) (told : Moved) (held : IsNetView old.net.net) (does : SimulatesInOrder old.net (Step place) new.net (TellsTurn told)) (notes : NotesTurn old.hops old.net.net.tables.switches new.net.net.flying place told old.tallies.items new.tallies.items)
     (same : new.net.net.tables ≡ old.net.net.tables) (same_hops : new.hops ≡ old.hops) (still : new.waiting.items ≡ old.waiting.items) where
-  module _ (t : Tables) (hops : Bool) (s : Ordered) (us : List Turn) (p : Plays t hops s us old) where
+  module _ (t : Tables) (hops : Bool) (s : Ordered) (us : List OrderedHappening) (p : Plays t hops s us old) where
     abbrev n : ℕ
     n = s.net.injected
 
@@ -170,7 +170,7 @@ module _ (old new : Play) (place : ℕ) (told : Moved) (held : IsHeld old.net.ne
     packets : All (λ (c : Copy). length c.packet ≡ comps t) s.net.flying
     packets = held-shown (λ (c : Flying). length c.packet ≡ comps t) old.net.net s.net p.shows.net (subst (λ t'. All (λ (c : Flying). length c.packet ≡ comps t') old.net.net.flying) p.tables held.packets)
 
-    on : (s' : Ordered) (ts : List Turn) → LeadsInTurn t s (Step place) s' ts → ShowsInTurn new.net s' → (u : Turn) → ts ≡ u ∷ [] → (x : Moved) → x ≡ told_of u → NotesTurn hops t.switches new.net.net.flying place x old.tallies.items new.tallies.items → Plays t hops s' (us ++ ts) new
+    on : (s' : Ordered) (ts : List OrderedHappening) → LeadsInOrder t s (Step place) s' ts → RepresentsInOrder new.net s' → (u : OrderedHappening) → ts ≡ u ∷ [] → (x : Moved) → x ≡ told_of u → NotesTurn hops t.switches new.net.net.flying place x old.tallies.items new.tallies.items → Plays t hops s' (us ++ ts) new
     on s' ts leads shows u what x is noted =
         let inj : s'.net.injected ≡ n = step_injected leads in
         let numbers = step_numbers (λ m. m < n) p.below leads in
@@ -189,7 +189,7 @@ module _ (old new : Play) (place : ℕ) (told : Moved) (held : IsHeld old.net.ne
 
   pub plays_step : HasStepped place old new true
   plays_step t hops s us p =
-      let a = subst (λ t'. (s' : Ordered) × (ts : List Turn) × LeadsInTurn t' s (Step place) s' ts × ShowsInTurn new.net s' × TellsTurn told ts) p.tables (does s p.shows) in
+      let a = subst (λ t'. (s' : Ordered) × (ts : List OrderedHappening) × LeadsInOrder t' s (Step place) s' ts × RepresentsInOrder new.net s' × TellsTurn told ts) p.tables (does s p.shows) in
       let u = a.4 in
       record {
         left = ap (λ ws. packets_in (reverse ws)) still;
@@ -201,14 +201,14 @@ module _ (old new : Play) (place : ℕ) (told : Moved) (held : IsHeld old.net.ne
       }
 
 -- what was told of has a tally, and stands at the place if it crossed a link
-module _ (old new : Play) (place : ℕ) (told : Moved) (playing : IsPlaying old) (does : IsDoneInTurn old.net (Step place) new.net (TellsTurn told)) where
-  pub owner_below : OwnerIsBelow (length old.tallies.items) told
-  owner_below =
+module _ (old new : OrderedPlay) (place : ℕ) (told : Moved) (playing : IsPlaying old) (does : SimulatesInOrder old.net (Step place) new.net (TellsTurn told)) where
+  pub number_below : NumberIsBelow (length old.tallies.items) told
+  number_below =
       let s = playing.0 in
       let p = playing.2 in
       let a = does s p.shows in
       let u = a.4 in
-      subst (λ m. OwnerIsBelow (length old.tallies.items) m) (sym u.2) (subst (λ n. OwnerIsBelow n (told_of u.0)) (sym p.counted) (turn_owner (λ m. m < s.net.injected) p.below a.2 u.0 u.1))
+      subst (λ m. NumberIsBelow (length old.tallies.items) m) (sym u.2) (subst (λ n. NumberIsBelow n (told_of u.0)) (sym p.counted) (turn_number (λ m. m < s.net.injected) p.below a.2 u.0 u.1))
 
   pub moved_there : IsThere new.net.net.flying place told
   moved_there =
@@ -217,13 +217,13 @@ module _ (old new : Play) (place : ℕ) (told : Moved) (playing : IsPlaying old)
       let u = a.4 in
       subst (IsThere new.net.net.flying place) (sym u.2) (turn_there new.net.net.flying place u.0 (subst (λ cs. StandsTurn cs place u.0) a.3.net.flying (turn_stands a.2 u.0 u.1)))
 
-pub playing_of : (t : Tables) (hops : Bool) (s : Ordered) (us : List Turn) (v : Play) → Plays t hops s us v → IsPlaying v
+pub playing_of : (t : Tables) (hops : Bool) (s : Ordered) (us : List OrderedHappening) (v : OrderedPlay) → Plays t hops s us v → IsPlaying v
 playing_of t hops s us v p = (s, us, subst (λ t'. Plays t' v.hops s us v) (sym p.tables) (subst (λ h. Plays t h s us v) (sym p.hops_same) p))
 
 -- ---- packets that wait
-pub left_count : (v : Play) → length (left_in v) ≡ length v.waiting.items
+pub left_count : (v : OrderedPlay) → length (left_in v) ≡ length v.waiting.items
 left_count v = length-map (reverse v.waiting.items) (λ (r : Ready). r.packet) ∙ length-reverse v.waiting.items
 
-pub inject_made : (old new : Play) → (0 < length (left_in old)) → (b : Bool) → HasInjected old new b → HasInjected old new true
+pub inject_made : (old new : OrderedPlay) → (0 < length (left_in old)) → (b : Bool) → HasInjected old new b → HasInjected old new true
 inject_made old new some true does = does
 inject_made old new some false none = λ t hops s us p. absurd (let e = ap length none in omega (arith, e, some))

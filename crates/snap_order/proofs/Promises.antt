@@ -1,4 +1,4 @@
--- What runs in turn over faithful tables promise: arrays, ends, and who waits.
+-- What runs in order over faithful tables promise: arrays, ends, and who waits.
 use Rattle.std.proofs.Common.{◌≡◌, ℕ, zero, suc, ◌<◌, ◌≤◌, ⊎_elim, Bool, true, false, cond, List, [], ◌∷◌, take, length, Some, refl, sym, ap, subst, ◌∙◌, arith}
 use Rattle.std.specs.Prelude.{slice_get, nat_eq}
 use Rattle.std.specs.List.{filter}
@@ -12,25 +12,25 @@ use Rattle.snap_core.specs.Arrays.{Arrays}
 use Rattle.snap_core.specs.Inputs.{IsZeroFrom}
 use Rattle.snap_core.specs.Packets.{PacketSet}
 use Rattle.snap_core.specs.Switch.{Switched, one_big_switch}
-use Rattle.snap_topo.specs.declared.topology.Topology.{Topology}
+use Rattle.snap_topology.specs.declared.topology.Topology.{Topology}
 use Rattle.snap_rows.specs.declared.tables.ArrayAt.{ArrayAt}
 use Rattle.snap_rows.specs.declared.tables.Tables.{Tables}
 use Rattle.snap_rows.specs.declared.head.Head.{Head}
 use Rattle.snap_rows.specs.declared.head.Head.TheVariants.{Out}
 use Rattle.snap_rows.specs.Entries.{rank_of, ranks}
 use Rattle.snap_rows.specs.Form.{array_count}
-use Rattle.snap_rows.specs.Network.{Copy, Event, Step, Happening, happening, packets_of, start, whole}
+use Rattle.snap_rows.specs.Network.{Copy, Event, Step, Happening, happening, packets_of, start, global_store}
 use Rattle.snap_rows.proofs.Later.{rank_is_below, var_array, ranks_above}
-use Rattle.snap_gen.specs.Agreement.{CameOut, numbered}
-use Rattle.snap_gen.specs.Faithful.{Faithful, IsStoreOf, packets_in, AgreesAsInjected}
-use Rattle.snap_gen.proofs.Leaving.{copies_of, came_out, own_leaves}
-use Rattle.snap_gen.proofs.LoneRuns.{is_early}
-use Rattle.snap_gen.proofs.Nodes.{IsTwo}
-use Rattle.snap_gen.proofs.Switching.{number_at, picks_all}
-use Rattle.snap_gen.proofs.Whole.{starts, whole_holds}
-use Rattle.snap_gen.proofs.Turning.{faithful-two}
+use Rattle.snap_faithful.specs.Agreement.{CameOut, numbered}
+use Rattle.snap_faithful.specs.Faithful.{Faithful, IsStoreOf, packets_in, AgreesAsInjected}
+use Rattle.snap_faithful.proofs.Leaving.{copies_of, came_out, own_leaves}
+use Rattle.snap_faithful.proofs.SingleOwnerRuns.{is_unforked}
+use Rattle.snap_faithful.proofs.Nodes.{IsTwo}
+use Rattle.snap_faithful.proofs.Switching.{number_at, picks_all}
+use Rattle.snap_faithful.proofs.Whole.{starts, whole_holds}
+use Rattle.snap_faithful.proofs.Turning.{faithful-two}
 use Rattle.snap_rows.specs.Stepping.{ComesTo}
-use Rattle.snap_order.specs.Ordered.{Ordered, Turn, Happens, Waits, IsBefore, turn_of, LeadsInTurn, moves, visits, waits, happenings}
+use Rattle.snap_order.specs.Ordered.{Ordered, OrderedHappening, Happens, Waits, AwaitsVisit, turn_of, LeadsInOrder, moves, visits, waits, happenings}
 use Rattle.snap_order.specs.Laws.{Overlaps, IsBehind, IsLeast}
 use Rattle.snap_order.proofs.Able.{no_wait, visits_on}
 use Rattle.snap_order.proofs.Overlap as overlap
@@ -51,10 +51,10 @@ kept {A = A} p (x ∷ xs) y ys e = by (p x) refl e (kept p xs y ys)
     by false isnt e rest = let r = rest e in (suc r.0, r.1, r.2)
 
 -- ---- turns
-late : {head : Head} → is_early head ≡ true → ((port : ℕ) × (head ≡ Out port)) → ⊥
-late early out = both_ways _ (ap is_early out.1) early
+late : {head : Head} → is_unforked head ≡ true → ((port : ℕ) × (head ≡ Out port)) → ⊥
+late early out = both_ways _ (ap is_unforked out.1) early
 
-module _ (p : Program) (topology : Topology) (places : List ℕ) (t : Tables) (f : Faithful p topology places t) (version : t.version ≡ 2) (m : Arrays) (es : List Event) (s : Ordered) (us : List Turn) (o : Overlaps p t m es s us) where
+module _ (p : Program) (topology : Topology) (places : List ℕ) (t : Tables) (f : Faithful p topology places t) (version : t.version ≡ 2) (m : Arrays) (es : List Event) (s : Ordered) (us : List OrderedHappening) (o : Overlaps p t m es s us) where
   two : IsTwo t
   two = faithful-two f version
 
@@ -86,11 +86,11 @@ module _ (p : Program) (topology : Topology) (places : List ℕ) (t : Tables) (f
   end = all_events p topology places t f version m o.store (packets_of es) o.packets [] [] refl first o.run
 
   -- ---- arrays
-  arrays : (q : Place) → whole t s.net q ≡ (after (s.handled (rank_of t q.var))).0.arrays q
+  arrays : (q : Place) → global_store t s.net q ≡ (after (s.handled (rank_of t q.var))).0.arrays q
   arrays q = whole_holds t two s.net (λ q. (after (s.handled (rank_of t q.var))).0.arrays q) end.held (λ q l. zeros (s.handled (rank_of t q.var)) q l) q
 
-  pub arrays_in_turn : (q : Place) → (x : Switched) × (one_big_switch p.body m (take (s.handled (rank_of t q.var)) all) ≡ Some x) × (whole t s.net q ≡ x.arrays q)
-  arrays_in_turn q = let a = after (s.handled (rank_of t q.var)) in (a.0, a.1, arrays q)
+  pub arrays_in_order : (q : Place) → (x : Switched) × (one_big_switch p.body m (take (s.handled (rank_of t q.var)) all) ≡ Some x) × (global_store t s.net q ≡ x.arrays q)
+  arrays_in_order q = let a = after (s.handled (rank_of t q.var)) in (a.0, a.1, arrays q)
 
   -- ---- ends
   module _ (none : s.net.flying ≡ []) where
@@ -130,7 +130,7 @@ module _ (p : Program) (topology : Topology) (places : List ℕ) (t : Tables) (f
     below = overlap.below p topology places t f version m o.store (packets_of es) o.packets (length all) (omega arith) s.net s.handled (happenings us) end c i found
 
     -- a rank has handled no more packets than came before a copy that is before its visit
-    not_past : (r n : ℕ) → IsBefore t s.net c r n → s.handled r ≤ c.number
+    not_past : (r n : ℕ) → AwaitsVisit t s.net c r n → s.handled r ≤ c.number
     not_past r n at = ⊎_elim
         (λ u.
         (let stands = overlap.stands p topology places t f version m o.store (packets_of es) o.packets (length all) (omega arith) s.net s.handled (happenings us) end c i found u in
@@ -142,24 +142,24 @@ module _ (p : Program) (topology : Topology) (places : List ℕ) (t : Tables) (f
         absurd (late (comes_early at.comes) (_, own_leaves s.net c i found ((g.leaving a.outcome a.is).out)))))
         (end.each c.number below)
 
-    pub behind_waits : {s' : Ordered} {vs : List Turn} → LeadsInTurn t s (Step i) s' vs → IsBehind t s c → (r : ℕ) × (vs ≡ Waits c r ∷ [])
-    behind_waits (moves {c = x} at none does) b = absurd (none b.rank b.number (subst (λ y. IsBefore t s.net y b.rank b.number) (same_Some c x (sym found ∙ at)) b.before))
+    pub behind_waits : {s' : Ordered} {vs : List OrderedHappening} → LeadsInOrder t s (Step i) s' vs → IsBehind t s c → (r : ℕ) × (vs ≡ Waits c r ∷ [])
+    behind_waits (moves {c = x} at none does) b = absurd (none b.rank b.number (subst (λ y. AwaitsVisit t s.net y b.rank b.number) (same_Some c x (sym found ∙ at)) b.before))
     behind_waits (visits {c = x} {r = r} {n = n} at before turn takes) b =
         let same = same_Some x c (sym at ∙ found) in
-        let to = subst (λ y. IsBefore t s.net y r n) same before in
+        let to = subst (λ y. AwaitsVisit t s.net y r n) same before in
         let rank = same_rank to.comes b.before.comes in
         absurd (let e = turn in let g = ap (λ (y : Copy). y.number) same in let h = ap s.handled rank in let l = b.fewer in omega (arith, e, g, h, l))
     behind_waits (waits {c = x} {r = r} at before early) b = (r, ap (λ y. Waits y r ∷ []) (same_Some x c (sym at ∙ found)))
 
-    pub waits_behind : {s' : Ordered} {vs : List Turn} → LeadsInTurn t s (Step i) s' vs → (r : ℕ) → vs ≡ Waits c r ∷ [] → IsBehind t s c × (s' ≡ s)
+    pub waits_behind : {s' : Ordered} {vs : List OrderedHappening} → LeadsInOrder t s (Step i) s' vs → (r : ℕ) → vs ≡ Waits c r ∷ [] → IsBehind t s c × (s' ≡ s)
     waits_behind (moves {c = x} {a = a} at none does) r e = absurd (no_wait (Happens (happening x a)) c r refl e)
     waits_behind (visits {c = x} {b = b} at before turn takes) r e = absurd (no_wait (turn_of x b) c r (visits_on x b) e)
     waits_behind (waits {c = x} {r = q} {n = n} at before early) r e =
         let same = same_Some x c (sym at ∙ found) in
-        let to = subst (λ y. IsBefore t s.net y q n) same before in
+        let to = subst (λ y. AwaitsVisit t s.net y q n) same before in
         (record { rank = q; number = n; before = to; fewer = (let a = not_past q n to in let b = ap (λ (y : Copy). y.number) same in omega (arith, a, b, early)) }, refl)
 
-    pub least_goes_on : {s' : Ordered} {vs : List Turn} → IsLeast s c → LeadsInTurn t s (Step i) s' vs → (r : ℕ) → vs ≡ Waits c r ∷ [] → ⊥
+    pub least_goes_on : {s' : Ordered} {vs : List OrderedHappening} → IsLeast s c → LeadsInOrder t s (Step i) s' vs → (r : ℕ) → vs ≡ Waits c r ∷ [] → ⊥
     least_goes_on least leads r e =
         let b = (waits_behind leads r e).0 in
         let j = s.handled b.rank in

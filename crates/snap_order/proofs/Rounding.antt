@@ -7,22 +7,22 @@ use Rattle.snap_core.specs.Arrays.{zero_arrays}
 use Rattle.snap_rows.specs.declared.tables.Tables.{Tables}
 use Rattle.snap_rows.specs.Form.{comps}
 use Rattle.snap_rows.specs.Network.{Copy, Event, Inject}
-use Rattle.snap_net.specs.Shown.{IsHeld}
+use Rattle.snap_net.specs.Shown.{IsNetView}
 use Rattle.snap_net.proofs.Blocks.{found}
 use Rattle.snap_net.proofs.Steps.{copy_shown}
-use Rattle.snap_gen.proofs.Nodes.{IsTwo}
+use Rattle.snap_faithful.proofs.Nodes.{IsTwo}
 use Rattle.snap_runs.specs.Plain.{entering}
 use Rattle.snap_runs.specs.Playing.{IsReady, packets_in}
 use Rattle.snap_rows.specs.Happenings.{number_of}
 use Rattle.snap_runs.proofs.Steps.{rests-shown}
-use Rattle.snap_order.specs.declared.play.Play.{Play}
+use Rattle.snap_order.specs.declared.play.OrderedPlay.{OrderedPlay}
 use Rattle.snap_net.specs.declared.happened.Moved.{Moved}
-use Rattle.snap_order.specs.Ordered.{Ordered, Turn, begin, happenings}
-use Rattle.snap_order.specs.Playing.{HasInjected, IsPlaying, OwnerIsBelow, Plays, left_in}
+use Rattle.snap_order.specs.Ordered.{Ordered, OrderedHappening, begin, happenings}
+use Rattle.snap_order.specs.Playing.{HasInjected, IsPlaying, NumberIsBelow, Plays, left_in}
 use Rattle.snap_order.specs.Reports.{IsRunReport}
 use Rattle.snap_order.specs.Rounding.{AreThere, HasRounded, IsPaced, IsRoundDone, NoteTurns, PlaysRounds, toil}
 use Rattle.snap_order.specs.Rounds.{GoesByRounds, injects, goes_on, rests, IsRound, IsRoundReport}
-use Rattle.snap_order.specs.Shown.{IsOrderedHeld, OrderedHeld, ShowsInTurn, told_of}
+use Rattle.snap_order.specs.Shown.{IsOrderedNetView, OrderedNetView, RepresentsInOrder, told_of}
 use Rattle.snap_order.proofs.Placed.{IsLong, Placed, long_shown, placed_shown}
 use Rattle.snap_order.proofs.Rounds.{injects_one, round_injected, round_numbers, tallied_round, told_below}
 use Rattle.snap_order.proofs.Standing.{inject_pace, pace_first}
@@ -30,23 +30,23 @@ use Rattle.snap_order.proofs.There.{StandFrom, round_stands, told_there}
 use Rattle.snap_order.proofs.Toiling.{round_falls, round_pace, toil_of, toil_shown}
 
 -- ---- a round
-two_held : (v : OrderedHeld) → IsHeld v.net → IsOrderedHeld v → IsTwo v.net.tables
+two_held : (v : OrderedNetView) → IsNetView v.net → IsOrderedNetView v → IsTwo v.net.tables
 two_held v held ordered = record { form = held.form; valid = held.valid; version = ordered.version }
 
-module _ (old : Play) (now : OrderedHeld) (told : List Moved) (does : IsRoundDone old.net now told) where
+module _ (old : OrderedPlay) (now : OrderedNetView) (told : List Moved) (does : IsRoundDone old.net now told) where
   -- the round of a state that was shown, over the tables at hand
-  round_of : (t : Tables) (hops : Bool) (s : Ordered) (us : List Turn) → Plays t hops s us old → (s' : Ordered) × (es : List Event) × (ts : List Turn) × IsRound t s es s' ts × ShowsInTurn now s' × (told ≡ map told_of ts)
-  round_of t hops s us p = subst (λ t'. (s' : Ordered) × (es : List Event) × (ts : List Turn) × IsRound t' s es s' ts × ShowsInTurn now s' × (told ≡ map told_of ts)) p.tables (does s p.shows)
+  round_of : (t : Tables) (hops : Bool) (s : Ordered) (us : List OrderedHappening) → Plays t hops s us old → (s' : Ordered) × (es : List Event) × (ts : List OrderedHappening) × IsRound t s es s' ts × RepresentsInOrder now s' × (told ≡ map told_of ts)
+  round_of t hops s us p = subst (λ t'. (s' : Ordered) × (es : List Event) × (ts : List OrderedHappening) × IsRound t' s es s' ts × RepresentsInOrder now s' × (told ≡ map told_of ts)) p.tables (does s p.shows)
 
   -- what was told of has a tally
-  pub told_all : IsPlaying old → All (OwnerIsBelow (length old.tallies.items)) told
+  pub told_all : IsPlaying old → All (NumberIsBelow (length old.tallies.items)) told
   told_all playing =
       let p = playing.2 in
       let a = round_of old.net.net.tables old.hops playing.0 playing.1 p in
-      subst (λ n. All (OwnerIsBelow n) told) (sym p.counted) (subst (All (OwnerIsBelow playing.0.net.injected)) (sym a.5) (told_below playing.0.net.injected p.below a.3))
+      subst (λ n. All (NumberIsBelow n) told) (sym p.counted) (subst (All (NumberIsBelow playing.0.net.injected)) (sym a.5) (told_below playing.0.net.injected p.below a.3))
 
   -- where it left its copies
-  stands_of : (t : Tables) (hops : Bool) (s : Ordered) (us : List Turn) (p : Plays t hops s us old) → StandFrom 0 now.net.flying (round_of t hops s us p).2
+  stands_of : (t : Tables) (hops : Bool) (s : Ordered) (us : List OrderedHappening) (p : Plays t hops s us old) → StandFrom 0 now.net.flying (round_of t hops s us p).2
   stands_of t hops s us p = let a = round_of t hops s us p in subst (λ cs. StandFrom 0 cs a.2) a.4.net.flying (round_stands a.3)
 
   pub there_all : IsPlaying old → AreThere 0 now.net.flying told
@@ -55,7 +55,7 @@ module _ (old : Play) (now : OrderedHeld) (told : List Moved) (does : IsRoundDon
       let a = round_of t old.hops playing.0 playing.1 playing.2 in
       subst (AreThere 0 now.net.flying) (sym a.5) (told_there a.2 0 now.net.flying (stands_of t old.hops playing.0 playing.1 playing.2))
 
-  module _ (new : Play) (is : new.net ≡ now) (held : IsHeld old.net.net) (ordered : IsOrderedHeld old.net) (notes : NoteTurns old.hops old.net.net.tables.switches now.net.flying 0 told old.tallies.items new.tallies.items)
+  module _ (new : OrderedPlay) (is : new.net ≡ now) (held : IsNetView old.net.net) (ordered : IsOrderedNetView old.net) (notes : NoteTurns old.hops old.net.net.tables.switches now.net.flying 0 told old.tallies.items new.tallies.items)
       (same : now.net.tables ≡ old.net.net.tables) (same_hops : new.hops ≡ old.hops) (still : new.waiting.items ≡ old.waiting.items) where
     pub plays_round : HasRounded old new
     plays_round t hops s us p =
@@ -76,9 +76,9 @@ module _ (old : Play) (now : OrderedHeld) (told : List Moved) (does : IsRoundDon
           turns = a.2;
           round = a.3;
           plays = record {
-            tables = ap (λ (v : OrderedHeld). v.net.tables) is ∙ same ∙ p.tables;
+            tables = ap (λ (v : OrderedNetView). v.net.tables) is ∙ same ∙ p.tables;
             hops_same = same_hops ∙ p.hops_same;
-            shows = subst (λ v. ShowsInTurn v a.0) (sym is) a.4;
+            shows = subst (λ v. RepresentsInOrder v a.0) (sym is) a.4;
             counted = y.counted ∙ sym inj;
             below = subst (λ m. All (λ (c : Copy). c.number < m) a.0.net.flying) (sym inj) numbers.0;
             before = subst (λ m. All (λ g. number_of g < m) (happenings (us ++ a.2))) (sym inj) y.before;
@@ -89,7 +89,7 @@ module _ (old : Play) (now : OrderedHeld) (told : List Moved) (does : IsRoundDon
         }
 
 -- ---- the schedule of rounds
-pub rounds_first : (t : Tables) (hops : Bool) (ks : List (List ℕ)) (v : Play) → Plays t hops (begin t zero_arrays) [] v → left_in v ≡ ks → PlaysRounds t hops ks v
+pub rounds_first : (t : Tables) (hops : Bool) (ks : List (List ℕ)) (v : OrderedPlay) → Plays t hops (begin t zero_arrays) [] v → left_in v ≡ ks → PlaysRounds t hops ks v
 rounds_first t hops ks v plays left = record {
   events = [];
   state = begin t zero_arrays;
@@ -100,18 +100,18 @@ rounds_first t hops ks v plays left = record {
   on = λ es end us rest. subst (λ l. GoesByRounds t (entering l) (begin t zero_arrays) es end us) left rest;
 }
 
-pub paced_of : (t : Tables) (hops : Bool) (ks : List (List ℕ)) (v : Play) → PlaysRounds t hops ks v → IsPaced v
+pub paced_of : (t : Tables) (hops : Bool) (ks : List (List ℕ)) (v : OrderedPlay) → PlaysRounds t hops ks v → IsPaced v
 paced_of t hops ks v p = (ks, subst (λ t'. PlaysRounds t' v.hops ks v) (sym p.plays.tables) (subst (λ h. PlaysRounds t h ks v) (sym p.plays.hops_same) p))
 
-module _ (old mid : Play) (held : IsHeld mid.net.net) (ordered : IsOrderedHeld mid.net) where
+module _ (old mid : OrderedPlay) (held : IsNetView mid.net.net) (ordered : IsOrderedNetView mid.net) where
   two_of : (t : Tables) → mid.net.net.tables ≡ t → IsTwo t
   two_of t same = subst IsTwo same (two_held mid.net held ordered)
 
-  placed_of : (t : Tables) (hops : Bool) (s : Ordered) (us : List Turn) → Plays t hops s us mid → All (Placed t) s.net.flying
+  placed_of : (t : Tables) (hops : Bool) (s : Ordered) (us : List OrderedHappening) → Plays t hops s us mid → All (Placed t) s.net.flying
   placed_of t hops s us p = subst (λ t'. All (Placed t') s.net.flying) p.tables (placed_shown mid.net.net s.net held p.shows.net)
 
   -- a packet is injected, and then a round is made
-  pub rounds_more : (new : Play) → HasInjected old mid true → HasRounded mid new → (t : Tables) (hops : Bool) (ks : List (List ℕ)) → PlaysRounds t hops ks old → PlaysRounds t hops ks new
+  pub rounds_more : (new : OrderedPlay) → HasInjected old mid true → HasRounded mid new → (t : Tables) (hops : Bool) (ks : List (List ℕ)) → PlaysRounds t hops ks old → PlaysRounds t hops ks new
   rounds_more new injected rounded t hops ks p =
       let a = injected t hops p.state p.turns p.plays in
       let b = rounded t hops a.state p.turns a.plays in
@@ -131,15 +131,15 @@ module _ (old mid : Play) (held : IsHeld mid.net.net) (ordered : IsOrderedHeld m
       }
 
 -- one packet fewer waits
-pub one_fewer : (old mid new : Play) → HasInjected old mid true → HasRounded mid new → (t : Tables) (hops : Bool) (ks : List (List ℕ)) → PlaysRounds t hops ks old → length (left_in old) ≡ suc (length (left_in new))
+pub one_fewer : (old mid new : OrderedPlay) → HasInjected old mid true → HasRounded mid new → (t : Tables) (hops : Bool) (ks : List (List ℕ)) → PlaysRounds t hops ks old → length (left_in old) ≡ suc (length (left_in new))
 one_fewer old mid new injected rounded t hops ks p =
     let a = injected t hops p.state p.turns p.plays in
     let b = rounded t hops a.state p.turns a.plays in
     ap length a.next ∙ ap (λ l. suc (length l)) (sym b.left)
 
 -- a round is made with no packet left
-module _ (old new : Play) (held : IsHeld old.net.net) (ordered : IsOrderedHeld old.net) (rounded : HasRounded old new) (none : left_in old ≡ []) (some : 0 < length old.net.net.flying) where
-  first_copy : (s : Ordered) → ShowsInTurn old.net s → (c : Copy) × (slice_get s.net.flying 0 ≡ Some c)
+module _ (old new : OrderedPlay) (held : IsNetView old.net.net) (ordered : IsOrderedNetView old.net) (rounded : HasRounded old new) (none : left_in old ≡ []) (some : 0 < length old.net.net.flying) where
+  first_copy : (s : Ordered) → RepresentsInOrder old.net s → (c : Copy) × (slice_get s.net.flying 0 ≡ Some c)
   first_copy s shows = let f = found old.net.net.flying 0 some in let x = copy_shown old.net.net s.net 0 f.0 shows.net f.1 in (x.0, x.1)
 
   pub rounds_on : (t : Tables) (hops : Bool) (ks : List (List ℕ)) → PlaysRounds t hops ks old → PlaysRounds t hops ks new
@@ -175,7 +175,7 @@ module _ (old new : Play) (held : IsHeld old.net.net) (ordered : IsOrderedHeld o
       omega (arith, less, e, f)
 
 -- ---- the report
-pub round_report : (t : Tables) (hops : Bool) (ks : List (List ℕ)) (v : Play) (text : List ℕ) (p : PlaysRounds t hops ks v) → left_in v ≡ [] → v.net.net.flying ≡ [] → IsRunReport t hops p.state.net.injected p.state.net (happenings p.turns) text
+pub round_report : (t : Tables) (hops : Bool) (ks : List (List ℕ)) (v : OrderedPlay) (text : List ℕ) (p : PlaysRounds t hops ks v) → left_in v ≡ [] → v.net.net.flying ≡ [] → IsRunReport t hops p.state.net.injected p.state.net (happenings p.turns) text
     → IsRoundReport t hops ks text
 round_report t hops ks v text p left rested report = record {
   events = p.events;

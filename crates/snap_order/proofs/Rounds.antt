@@ -6,41 +6,41 @@ use Rattle.snap_rows.specs.declared.tables.Tables.{Tables}
 use Rattle.snap_rows.specs.Form.{comps}
 use Rattle.snap_rows.specs.Network.{Copy, Event, Inject, done, on, packets_of}
 use Rattle.snap_rows.proofs.Runs.{runs-behind}
-use Rattle.snap_gen.proofs.Nodes.{IsTwo}
+use Rattle.snap_faithful.proofs.Nodes.{IsTwo}
 use Rattle.snap_runs.specs.declared.tally.Tally.{Tally}
 use Rattle.snap_rows.specs.Happenings.{number_of}
 use Rattle.snap_net.proofs.Told.{packets_of-append}
 use Rattle.snap_net.specs.declared.flying.Flying.{Flying}
 use Rattle.snap_net.specs.declared.happened.Moved.{Moved}
-use Rattle.snap_order.specs.Ordered.{Ordered, Turn, LeadsInTurn, RunsInTurn, happenings, injects as injecting}
-use Rattle.snap_order.specs.Playing.{NotesTurn, OwnerIsBelow}
+use Rattle.snap_order.specs.Ordered.{Ordered, OrderedHappening, LeadsInOrder, RunsInOrder, happenings, injects as injecting}
+use Rattle.snap_order.specs.Playing.{NotesTurn, NumberIsBelow}
 use Rattle.snap_order.specs.Rounding.{NoteTurns, no_notes, notes, width}
 use Rattle.snap_order.specs.Rounds.{GoesByRounds, rests, injects, goes_on, TakesFrom, ends, takes}
 use Rattle.snap_order.specs.Shown.{told_of}
 use Rattle.snap_order.proofs.Overlap.{happenings_more}
 use Rattle.snap_order.proofs.Placed.{IsLong, Placed, step_keeps_long, step_placed}
-use Rattle.snap_order.proofs.Playing.{step_injected, step_numbers, turn_owner}
+use Rattle.snap_order.proofs.Playing.{step_injected, step_numbers, turn_number}
 use Rattle.snap_order.proofs.Tallied.{Tallied, step_long, tallied_turn}
 use Rattle.snap_order.proofs.There.{StandFrom, one_turn}
 
 -- ---- a round
-pub injects_one : {t : Tables} {s s' : Ordered} {port : ℕ} {k : List ℕ} {us : List Turn} → LeadsInTurn t s (Inject port k) s' us → s'.net.injected ≡ s.net.injected + 1
+pub injects_one : {t : Tables} {s s' : Ordered} {port : ℕ} {k : List ℕ} {us : List OrderedHappening} → LeadsInOrder t s (Inject port k) s' us → s'.net.injected ≡ s.net.injected + 1
 injects_one (injecting at first) = refl
 
-pub round_injected : {t : Tables} {i : ℕ} {s s' : Ordered} {es : List Event} {us : List Turn} → TakesFrom t i s es s' us → s'.net.injected ≡ s.net.injected
+pub round_injected : {t : Tables} {i : ℕ} {s s' : Ordered} {es : List Event} {us : List OrderedHappening} → TakesFrom t i s es s' us → s'.net.injected ≡ s.net.injected
 round_injected (ends at) = refl
 round_injected (takes leads next rest) = round_injected rest ∙ step_injected leads
 
-pub round_runs : {t : Tables} {i : ℕ} {s s' : Ordered} {es : List Event} {us : List Turn} → TakesFrom t i s es s' us → RunsInTurn t s es s' us
+pub round_runs : {t : Tables} {i : ℕ} {s s' : Ordered} {es : List Event} {us : List OrderedHappening} → TakesFrom t i s es s' us → RunsInOrder t s es s' us
 round_runs (ends at) = done
 round_runs (takes leads next rest) = on leads (round_runs rest)
 
-round_packets : {t : Tables} {i : ℕ} {s s' : Ordered} {es : List Event} {us : List Turn} → TakesFrom t i s es s' us → packets_of es ≡ []
+round_packets : {t : Tables} {i : ℕ} {s s' : Ordered} {es : List Event} {us : List OrderedHappening} → TakesFrom t i s es s' us → packets_of es ≡ []
 round_packets (ends at) = refl
 round_packets (takes leads next rest) = round_packets rest
 
 -- the numbers of packets
-pub round_numbers : {t : Tables} {i : ℕ} {s s' : Ordered} {es : List Event} {us : List Turn} (n : ℕ) → All (λ (c : Copy). c.number < n) s.net.flying → TakesFrom t i s es s' us → All (λ (c : Copy). c.number < n) s'.net.flying × All (λ h. number_of h < n) (happenings us)
+pub round_numbers : {t : Tables} {i : ℕ} {s s' : Ordered} {es : List Event} {us : List OrderedHappening} (n : ℕ) → All (λ (c : Copy). c.number < n) s.net.flying → TakesFrom t i s es s' us → All (λ (c : Copy). c.number < n) s'.net.flying × All (λ h. number_of h < n) (happenings us)
 round_numbers n all (ends at) = (all, All-nil (λ h. number_of h < n))
 round_numbers n all (takes {u = u} {us = us} leads next rest) =
     let first = step_numbers (λ m. m < n) all leads in
@@ -48,12 +48,12 @@ round_numbers n all (takes {u = u} {us = us} leads next rest) =
     (more.0, subst (All (λ h. number_of h < n)) (sym (happenings_more u us)) (All-append (λ h. number_of h < n) (happenings u) (happenings us) first.1 more.1))
 
 -- what is told is of these packets
-pub told_below : {t : Tables} {i : ℕ} {s s' : Ordered} {es : List Event} {us : List Turn} (n : ℕ) → All (λ (c : Copy). c.number < n) s.net.flying → TakesFrom t i s es s' us → All (OwnerIsBelow n) (map told_of us)
-told_below n all (ends at) = All-nil (OwnerIsBelow n)
+pub told_below : {t : Tables} {i : ℕ} {s s' : Ordered} {es : List Event} {us : List OrderedHappening} (n : ℕ) → All (λ (c : Copy). c.number < n) s.net.flying → TakesFrom t i s es s' us → All (NumberIsBelow n) (map told_of us)
+told_below n all (ends at) = All-nil (NumberIsBelow n)
 told_below n all (takes {u = u} {us = us} leads next rest) =
     let one = one_turn leads in
     let first = step_numbers (λ m. m < n) all leads in
-    subst (λ l. All (OwnerIsBelow n) (map told_of (l ++ us))) (sym one.1) (All-cons (OwnerIsBelow n) (told_of one.0) (map told_of us) (turn_owner (λ m. m < n) all leads one.0 one.1) (told_below n first.0 rest))
+    subst (λ l. All (NumberIsBelow n) (map told_of (l ++ us))) (sym one.1) (All-cons (NumberIsBelow n) (told_of one.0) (map told_of us) (turn_number (λ m. m < n) all leads one.0 one.1) (told_below n first.0 rest))
 
 -- ---- notes
 nothing_noted : {hops : Bool} {switches : List (List ℕ)} {cs : List Flying} {place : ℕ} {ys zs : List Tally} → NoteTurns hops switches cs place [] ys zs → zs ≡ ys
@@ -64,7 +64,7 @@ first_noted : {hops : Bool} {switches : List (List ℕ)} {cs : List Flying} {pla
 first_noted (notes {zs = zs} first rest) = (zs, first, rest)
 
 module _ (t : Tables) (two : IsTwo t) (hops : Bool) (n : ℕ) (cs : List Flying) where
-  pub tallied_round : {i : ℕ} {s s' : Ordered} {es : List Event} {ts : List Turn} (us : List Turn) (place : ℕ) (ys zs : List Tally) → TakesFrom t i s es s' ts → All (λ (c : Copy). c.number < n) s.net.flying → All (Placed t) s.net.flying → All (IsLong (comps t)) s.net.flying
+  pub tallied_round : {i : ℕ} {s s' : Ordered} {es : List Event} {ts : List OrderedHappening} (us : List OrderedHappening) (place : ℕ) (ys zs : List Tally) → TakesFrom t i s es s' ts → All (λ (c : Copy). c.number < n) s.net.flying → All (Placed t) s.net.flying → All (IsLong (comps t)) s.net.flying
       → Tallied t hops n us ys → StandFrom place cs ts → NoteTurns hops t.switches cs place (map told_of ts) ys zs → Tallied t hops n (us ++ ts) zs
   tallied_round us place ys zs (ends at) below placed long p stands noted = subst (λ l. Tallied t hops n l zs) (sym (append-nil us)) (subst (Tallied t hops n us) (sym (nothing_noted noted)) p)
   tallied_round us place ys zs (takes {s' = mid} {u = u} {us = ts} leads next rest) below placed long p stands noted =
@@ -78,7 +78,7 @@ module _ (t : Tables) (two : IsTwo t) (hops : Bool) (n : ℕ) (cs : List Flying)
 
 -- ---- runs by rounds
 -- each is a run of its packets to an end
-pub by_rounds_runs : (t : Tables) {ks : List (ℕ × List ℕ)} {s s' : Ordered} {es : List Event} {us : List Turn} → GoesByRounds t ks s es s' us → RunsInTurn t s es s' us × (packets_of es ≡ ks) × (s'.net.flying ≡ [])
+pub by_rounds_runs : (t : Tables) {ks : List (ℕ × List ℕ)} {s s' : Ordered} {es : List Event} {us : List OrderedHappening} → GoesByRounds t ks s es s' us → RunsInOrder t s es s' us × (packets_of es ≡ ks) × (s'.net.flying ≡ [])
 by_rounds_runs t (rests none) = (done, refl, none)
 by_rounds_runs t (injects {port = port} {k = k} {es = es} {fs = fs} leads round rest) =
     let more = by_rounds_runs t rest in

@@ -3,8 +3,8 @@ use Rattle.std.proofs.Common.{ℕ, Bool, List, Option, Ok, Err, sym, ap, subst}
 use Rattle.std.specs.Io.KnownBytes.{Appends}
 use Rattle.snap_io.specs.Sinks.{AppendsPart}
 use Rattle.snap_rows.specs.declared.tables.Tables.{Tables}
-use Rattle.snap_trace.specs.declared.fault.TraceFault.TheVariants as trace
-use Rattle.snap_trace.specs.Spelled.{Spelled}
+use Rattle.snap_report.specs.declared.fault.TraceFault.TheVariants as trace
+use Rattle.snap_report.specs.Spelled.{Spelled}
 use Rattle.snap_runs.specs.declared.ready.Ready.{Ready}
 use Rattle.snap_runs.specs.Playing.{AreAll, packets_in}
 use Rattle.snap_order.specs.Rounds.{HasRoundReport, IsRoundReport, WritesRounds}

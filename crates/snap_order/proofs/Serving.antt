@@ -17,13 +17,13 @@ use Rattle.snap_rows.specs.Handles.{Handles}
 use Rattle.snap_rows.specs.Network.{Copy, Inject, Step, Leads, moved, step, stepped}
 use Rattle.snap_rows.proofs.Later.{rank_is_below}
 use Rattle.snap_rows.proofs.Rows.{All-get}
-use Rattle.snap_gen.specs.InTurn.{Becomes, SentOn, Waiting, Forks, TakesTurns}
-use Rattle.snap_gen.specs.InTurn as turn
-use Rattle.snap_gen.proofs.LoneRuns.{is_early}
-use Rattle.snap_gen.proofs.Nodes.{IsTwo, WalkDoes, visits_first, forks_at_once, walk_does, OutDoes, is_delivered, is_carried, out_does}
+use Rattle.snap_faithful.specs.InOrder.{Becomes, SentOn, Waiting, Forks, TakesTurns}
+use Rattle.snap_faithful.specs.InOrder as turn
+use Rattle.snap_faithful.proofs.SingleOwnerRuns.{is_unforked}
+use Rattle.snap_faithful.proofs.Nodes.{IsTwo, WalkDoes, visits_first, forks_at_once, walk_does, OutDoes, is_delivered, is_carried, out_does}
 use Rattle.snap_order.specs.Laws.{HasForked}
 use Rattle.snap_rows.specs.Stepping.{ComesTo, visit, walk}
-use Rattle.snap_order.specs.Ordered.{Ordered, Turn, IsBefore, LeadsInTurn, injects, moves, visits, waits, happenings, visited, turn_of}
+use Rattle.snap_order.specs.Ordered.{Ordered, OrderedHappening, AwaitsVisit, LeadsInOrder, injects, moves, visits, waits, happenings, visited, turn_of}
 use Rattle.snap_order.specs.Serving.{IsRested, Serves, StandsBefore, comes, leaves}
 use Rattle.snap_order.specs.Turning.{rank_behind}
 use Rattle.snap_order.proofs.Overlap.{comes_early}
@@ -34,7 +34,7 @@ stands_same : {t : Tables} {w : ℕ} {k : List ℕ} {m : Arrays} {head : Head} {
 stands_same r visit stands = sym stands
 stands_same r (walk some follow) stands = sym stands
 
--- a copy that stays isn't in turn
+-- a copy that stays isn't in order
 stays_early : {t : Tables} {w : ℕ} {k : List ℕ} {i : ℕ} {s s' : Arrays} {h h' : ℕ → ℕ} {r n q v : ℕ} → TakesTurns t w k i s h r n s' h' (Waiting q v) → (rank_at t q ≡ Some w) × (h' q ≢ i)
 stays_early (turn.waits own early) = (own, early)
 stays_early (turn.visits own now made more rest) = stays_early rest
@@ -48,7 +48,7 @@ replaced_forked cs j xs all some = All-append HasForked (take j cs) (xs ++ drop 
 
 -- a head of a copy that has forked comes to no visit
 pub forked_late : {t : Tables} {w : ℕ} {k : List ℕ} {m : Arrays} {q n : ℕ} (c : Copy) → HasForked c → ComesTo t w k m c.head q n → ⊥
-forked_late c forked to = both_ways _ (ap is_early forked.1) (comes_early to)
+forked_late c forked to = both_ways _ (ap is_unforked forked.1) (comes_early to)
 
 module _ (t : Tables) (two : IsTwo t) (i : ℕ) where
   -- what a copy that is before no visit does
@@ -91,7 +91,7 @@ module _ (t : Tables) (two : IsTwo t) (i : ℕ) where
       went (split_up {copies = copies} {lost = lost} none) =
           leaves (subst (All HasForked) (sym (left (moved c (Fork copies lost)))) (All-append HasForked (moved c (Fork copies lost)) [] (copies_forked c copies lost) (All-nil HasForked))) (λ q below. absurd (omega (arith, below, none)))
 
-      turned : {q n : ℕ} {m : Arrays} {h' : ℕ → ℕ} {b : Becomes} → IsBefore t s.net c q n → TakesTurns t c.at c.packet c.number (s.net.stores c.at) s.handled q n m h' b
+      turned : {q n : ℕ} {m : Arrays} {h' : ℕ → ℕ} {b : Becomes} → AwaitsVisit t s.net c q n → TakesTurns t c.at c.packet c.number (s.net.stores c.at) s.handled q n m h' b
           → Serves t i (visited s j c m h' b) × Leads t s.net (Step j) (visited s j c m h' b).net (happenings (turn_of c b ∷ []))
       turned {q = q} {n = n} {m = m} {h' = h'} {b = b} before takes = by b takes (counts t c.at c.packet c.number takes)
         where
@@ -121,7 +121,7 @@ module _ (t : Tables) (two : IsTwo t) (i : ℕ) where
             step found (turn_handles t c.at c.packet c.number two.version before.comes takes (Fork copies lost) refl),
           )
 
-      in_time : {q n : ℕ} → IsBefore t s.net c q n → s.handled q ≡ c.number
+      in_time : {q n : ℕ} → AwaitsVisit t s.net c q n → s.handled q ≡ c.number
       in_time {q = q} before = high q (let at = stands_same r before.comes here in omega (arith, at)) (rank_is_below t q c.at before.owner) ∙ sym own
 
     -- ---- it is on its way to a port
@@ -131,7 +131,7 @@ module _ (t : Tables) (two : IsTwo t) (i : ℕ) where
         let y : Copy = record c { at = x; head = Out p; hops = c.hops + 1; steps = c.steps + 1 } in
         leaves (replaced_forked s.net.flying j (y ∷ []) all (All-cons HasForked y [] (p, refl) (All-nil HasForked))) handled
 
-  pub serves_step : {s s' : Ordered} {j : ℕ} {us : List Turn} → j ≡ 0 → LeadsInTurn t s (Step j) s' us → Serves t i s → Serves t i s' × Leads t s.net (Step j) s'.net (happenings us)
+  pub serves_step : {s s' : Ordered} {j : ℕ} {us : List OrderedHappening} → j ≡ 0 → LeadsInOrder t s (Step j) s' us → Serves t i s → Serves t i s' × Leads t s.net (Step j) s'.net (happenings us)
   serves_step {s = s} {j = j} first (moves {c = c} found none does) (comes {c = d} {r = r} alone number stands low high) = (
     went s c j found first d r alone number stands low high
         (passes c.head r (here s c j found first d r alone number stands low high) (λ q v to own. none q v (record { comes = to; owner = own })) does),
@@ -148,7 +148,7 @@ module _ (t : Tables) (two : IsTwo t) (i : ℕ) where
   serves_step {s = s} {j = j} first (waits {c = c} found before early) (leaves all handled) = absurd (forked_late c (All-get HasForked s.net.flying j c all found) before.comes)
 
 -- a packet that comes in when each rank has handled all others
-pub serves_first : {t : Tables} {s s' : Ordered} {port : ℕ} {k : List ℕ} {us : List Turn} → s.net.flying ≡ [] → IsRested t s → LeadsInTurn t s (Inject port k) s' us → Serves t s.net.injected s' × (s'.net.injected ≡ s.net.injected + 1)
+pub serves_first : {t : Tables} {s s' : Ordered} {port : ℕ} {k : List ℕ} {us : List OrderedHappening} → s.net.flying ≡ [] → IsRested t s → LeadsInOrder t s (Inject port k) s' us → Serves t s.net.injected s' × (s'.net.injected ≡ s.net.injected + 1)
 serves_first {s = s} {k = k} none rested (injects {w = w} at first) =
     let c : Copy = record { number = s.net.injected; at = w; head = Walk 0; packet = k; hops = 0; steps = 0 } in
     (comes {c = c} {r = 0} (ap (λ l. l ++ c ∷ []) none) refl refl (λ q less. absurd (omega (arith, less))) (λ q more within. rested q within), refl)

@@ -15,19 +15,19 @@ use Rattle.snap_rows.specs.Form.{comps, switch_count}
 use Rattle.snap_rows.specs.Home.{AtHome}
 use Rattle.snap_rows.proofs.Later.{rank_is_below}
 use Rattle.snap_net.specs.declared.flying.Flying.{Flying}
-use Rattle.snap_net.specs.Shown.{Held, IsHeld, store_of}
+use Rattle.snap_net.specs.Shown.{NetView, IsNetView, store_of}
 use Rattle.snap_order.specs.declared.hand.Stepped.{Stepped}
 use Rattle.snap_order.specs.declared.job.Job.{Job}
 use Rattle.snap_order.specs.declared.lent.Lent.{Lent}
 use Rattle.snap_order.specs.declared.weave.Web.{Web}
 use Rattle.snap_order.specs.Dealing.{AreDealt, AreExchanged, ArePlaces, kept_at}
-use Rattle.snap_order.specs.Hands.{Agrees, InPlace, IsTwo, Part, WeavesTo, Works, Woven, idles, works, over, next, part_of, share}
+use Rattle.snap_order.specs.Hands.{Agrees, InPlace, IsTwo, SwitchState, WeavesTo, Works, Woven, idles, works, over, next, part_of, share}
 use Rattle.snap_order.specs.Jobs.{AreReady, HasWorked, IsJob, WorkedOn, counts_after}
 use Rattle.snap_order.specs.Lending.{IsLent, IsWorked}
 use Rattle.snap_order.specs.Ordered.{Ordered}
 use Rattle.snap_order.specs.Rounding.{IsRoundDone}
 use Rattle.snap_order.specs.Rounds.{IsRound}
-use Rattle.snap_order.specs.Shown.{IsOrderedHeld, OrderedHeld, ShowsInTurn}
+use Rattle.snap_order.specs.Shown.{IsOrderedNetView, OrderedNetView, RepresentsInOrder}
 use Rattle.snap_order.specs.Weaving.{AreWoven, HasCounts, queues_of}
 use Rattle.snap_order.proofs.Weaving.{share_other, share_own, weaves}
 use Rattle.snap_order.proofs.Webs.{queue_at}
@@ -36,7 +36,7 @@ use Rattle.snap_order.proofs.Webs.{queue_at}
 abbrev PutInPlace : Tables → Stepped → Type 0
 PutInPlace t x = All (InPlace t) x.left.items
 
-works_placed : {t : Tables} {workers : ℕ} {p q : Part} {cs : List Flying} {xs : List Stepped} → Works t workers p cs q xs → All (PutInPlace t) xs
+works_placed : {t : Tables} {workers : ℕ} {p q : SwitchState} {cs : List Flying} {xs : List Stepped} → Works t workers p cs q xs → All (PutInPlace t) xs
 works_placed {t = t} idles = All-nil (PutInPlace t)
 works_placed {t = t} (works {x = x} {xs = xs} steps rest) = All-cons (PutInPlace t) x xs steps.here.placed (works_placed rest)
 
@@ -66,7 +66,7 @@ share_placed P Q workers j so (c ∷ cs) all = by (nat_eq (c.at % workers) j) re
         subst (All Q) (sym (share_own workers j c cs own)) (All-cons Q c (share workers j cs) (so c own (All-head P c cs all)) rest)
     by false e rest = subst (All Q) (sym (share_other workers j c cs (eqb-false (c.at % workers) j e))) rest
 
-all_in_place : (v : Held) → IsHeld v → (cs : List Flying) → All (λ (c : Flying). c.at < switch_count v.tables) cs → All (λ (c : Flying). length c.packet ≡ comps v.tables) cs → All (λ (c : Flying). AtHome v.tables c.at c.head) cs → All (InPlace v.tables) cs
+all_in_place : (v : NetView) → IsNetView v → (cs : List Flying) → All (λ (c : Flying). c.at < switch_count v.tables) cs → All (λ (c : Flying). length c.packet ≡ comps v.tables) cs → All (λ (c : Flying). AtHome v.tables c.at c.head) cs → All (InPlace v.tables) cs
 all_in_place v held [] places packets homes = All-nil (InPlace v.tables)
 all_in_place v held (c ∷ cs) places packets homes =
     let p = All-head (λ (c : Flying). c.at < switch_count v.tables) c cs places in
@@ -75,7 +75,7 @@ all_in_place v held (c ∷ cs) places packets homes =
     All-cons (InPlace v.tables) c cs (record { at = p; packet = k; home = h })
     (all_in_place v held cs (All-tail (λ (c : Flying). c.at < switch_count v.tables) c cs places) (All-tail (λ (c : Flying). length c.packet ≡ comps v.tables) c cs packets) (All-tail (λ (c : Flying). AtHome v.tables c.at c.head) c cs homes))
 
-pub in_place : (v : Held) → IsHeld v → All (InPlace v.tables) v.flying
+pub in_place : (v : NetView) → IsNetView v → All (InPlace v.tables) v.flying
 in_place v held = all_in_place v held v.flying held.places held.packets held.homes
 
 -- copies in their places make a network with these tables
@@ -141,10 +141,10 @@ module _ (t : Tables) (workers : ℕ) (some : 0 < workers) (cs : List Flying) (p
     on : (j : ℕ) → j < workers → WorkedOn t counts (get_or jobs1 j d) (get_or jobs2 j d)
     on j low = let a = lent_count in let b = count2 in AllZip-get_or (HasWorked t counts) jobs1 jobs2 j d d worked (omega (arith, low, a)) (enough j d (omega (arith, low, b)))
 
-    abbrev begins : ℕ → Part
+    abbrev begins : ℕ → SwitchState
     begins j = part_of workers (get_or jobs1 j d).stores.items counts
 
-    abbrev ends : ℕ → Part
+    abbrev ends : ℕ → SwitchState
     ends j = part_of workers (get_or jobs2 j d).stores.items (counts_after counts (get_or jobs2 j d).counts.items)
 
     queue : (j : ℕ) → j < workers → queues_of jobs3 j ≡ (get_or jobs2 j d).done.items
@@ -187,7 +187,7 @@ module _ (t : Tables) (workers : ℕ) (some : 0 < workers) (cs : List Flying) (p
         subst (All (InPlace t)) (sym woven.flying)
         (flat_placed (InPlace t) woven.steps (woven_placed (PutInPlace t) workers some woven.woven (λ j low. works_placed (all_work j low))))
 
-    module _ (v : OrderedHeld) (same : v.net.tables ≡ t) (stores_are : v.net.stores ≡ stores0) (flying_are : v.net.flying ≡ cs) (counts_are : v.counts ≡ counts) (s : Ordered) (shows : ShowsInTurn v s) where
+    module _ (v : OrderedNetView) (same : v.net.tables ≡ t) (stores_are : v.net.stores ≡ stores0) (flying_are : v.net.flying ≡ cs) (counts_are : v.counts ≡ counts) (s : Ordered) (shows : RepresentsInOrder v s) where
       agrees : Agrees t workers (λ j. true) begins s
       agrees = record {
         stores = λ w busy. shows.net.stores w ∙ ap (λ (l : List Kept). store_of l w) stores_are ∙ ap arrays_of (begun_store w);
@@ -219,7 +219,7 @@ module _ (t : Tables) (workers : ℕ) (some : 0 < workers) (cs : List Flying) (p
       handled_by r None e = handled_none r e
       handled_by r (Some w) e = handled_some r w e
 
-      pub shows_again : (new : OrderedHeld) → new.net.stores ≡ stores3 → new.net.injected ≡ v.net.injected → new.net.flying ≡ web.flying.items → new.counts ≡ counts' → ShowsInTurn new made.state
+      pub shows_again : (new : OrderedNetView) → new.net.stores ≡ stores3 → new.net.injected ≡ v.net.injected → new.net.flying ≡ web.flying.items → new.counts ≡ counts' → RepresentsInOrder new made.state
       shows_again new stores_is injected_is flying_is counts_is = record {
         net = record {
           stores = λ w. made.agrees.stores w refl ∙ ap arrays_of (ended_store w) ∙ ap (λ (l : List Kept). store_of l w) (sym stores_is);
@@ -229,7 +229,7 @@ module _ (t : Tables) (workers : ℕ) (some : 0 < workers) (cs : List Flying) (p
         handled = λ r. handled_by r (rank_at t r) refl ∙ ap (λ (l : List ℕ). get_or l r 0) (sym counts_is);
       }
 
-    pub round_made : (v new : OrderedHeld) → v.net.tables ≡ t → v.net.stores ≡ stores0 → v.net.flying ≡ cs → v.counts ≡ counts → new.net.stores ≡ stores3 → new.net.injected ≡ v.net.injected → new.net.flying ≡ web.flying.items → new.counts ≡ counts'
+    pub round_made : (v new : OrderedNetView) → v.net.tables ≡ t → v.net.stores ≡ stores0 → v.net.flying ≡ cs → v.counts ≡ counts → new.net.stores ≡ stores3 → new.net.injected ≡ v.net.injected → new.net.flying ≡ web.flying.items → new.counts ≡ counts'
         → IsRoundDone v new web.done.items
     round_made v new same stores_are flying_are counts_are stores_is injected_is flying_is counts_is s shows =
         let m = made v same stores_are flying_are counts_are s shows in (
@@ -251,7 +251,7 @@ pub all_switches : (cs : List Flying) (k : ℕ) → length cs ≤ k → map (λ 
 all_switches cs k all = ap (map (λ (x : Flying). x.at)) (take_all k cs all)
 
 -- ---- a network that is lent
-module _ {workers : ℕ} {v : OrderedHeld} {t : Tables} {packets : ℕ} {numbers : List ℕ} {left : List Kept} {given : List Job} (some : 0 < workers) (is : IsLent workers v t packets numbers left given) where
+module _ {workers : ℕ} {v : OrderedNetView} {t : Tables} {packets : ℕ} {numbers : List ℕ} {left : List Kept} {given : List Job} (some : 0 < workers) (is : IsLent workers v t packets numbers left given) where
   lent_two : IsTwo t
   lent_two = subst IsTwo is.tables (record { form = is.held.form; valid = is.held.valid; version = is.ordered.version })
 
@@ -276,7 +276,7 @@ module _ {workers : ℕ} {v : OrderedHeld} {t : Tables} {packets : ℕ} {numbers
       (lent_places t workers some v.net.flying lent_placed v.net.stores left lent_stores is.jobs given is.dealt is.lent j d low)
 
 -- and worked at
-module _ {workers : ℕ} {v : OrderedHeld} {t : Tables} {packets : ℕ} {numbers : List ℕ} {left : List Kept} {given : List Job} (some : 0 < workers) (is : IsWorked workers v t packets numbers left given) where
+module _ {workers : ℕ} {v : OrderedNetView} {t : Tables} {packets : ℕ} {numbers : List ℕ} {left : List Kept} {given : List Job} (some : 0 < workers) (is : IsWorked workers v t packets numbers left given) where
   pub worked_many : length given ≡ workers
   worked_many = sym (length_all_zip (HasWorked t numbers) is.before given is.worked) ∙ lent_many some is.begun
 
@@ -294,7 +294,7 @@ module _ {workers : ℕ} {v : OrderedHeld} {t : Tables} {packets : ℕ} {numbers
         placed_again t workers some v.net.flying (lent_placed some is.begun) v.net.stores left (lent_stores some is.begun) is.begun.jobs is.before is.begun.dealt is.begun.lent d numbers counts given jobs stores web is.worked is.enough back woven counted
         (lent_few some is.begun) long
 
-    pub held_again : IsHeld (record { tables = t; stores = stores; injected = packets; flying = web.flying.items })
+    pub held_again : IsNetView (record { tables = t; stores = stores; injected = packets; flying = web.flying.items })
     held_again =
         let two = lent_two some is.begun in
         record {
@@ -306,16 +306,16 @@ module _ {workers : ℕ} {v : OrderedHeld} {t : Tables} {packets : ℕ} {numbers
           homes = at_homes t web.flying.items flying_again;
         }
 
-    pub ordered_again : IsOrderedHeld (record { net = record { tables = t; stores = stores; injected = packets; flying = web.flying.items }; counts = counts })
+    pub ordered_again : IsOrderedNetView (record { net = record { tables = t; stores = stores; injected = packets; flying = web.flying.items }; counts = counts })
     ordered_again = record { version = (lent_two some is.begun).version; counts = long ∙ lent_few some is.begun }
 
-    pub settled : (new : OrderedHeld) → new.net ≡ record { tables = t; stores = stores; injected = packets; flying = web.flying.items } → new.counts ≡ counts → IsRoundDone v new web.done.items
+    pub settled : (new : OrderedNetView) → new.net ≡ record { tables = t; stores = stores; injected = packets; flying = web.flying.items } → new.counts ≡ counts → IsRoundDone v new web.done.items
     settled new e k =
         round_made t workers some v.net.flying (lent_placed some is.begun) v.net.stores left (lent_stores some is.begun) is.begun.jobs is.before is.begun.dealt is.begun.lent d numbers counts given jobs stores web is.worked is.enough back woven counted
-        (lent_few some is.begun) long v new is.begun.tables refl refl is.begun.counts (ap (λ (h : Held). h.stores) e) (ap (λ (h : Held). h.injected) e ∙ sym is.begun.injected) (ap (λ (h : Held). h.flying) e) k
+        (lent_few some is.begun) long v new is.begun.tables refl refl is.begun.counts (ap (λ (h : NetView). h.stores) e) (ap (λ (h : NetView). h.injected) e ∙ sym is.begun.injected) (ap (λ (h : NetView). h.flying) e) k
 
 -- what was lent, after the work
-pub works_on : (workers : ℕ) (v : OrderedHeld) (lent done : Lent) → IsLent workers v lent.tables lent.injected lent.counts.items lent.stores.items lent.jobs.items → done.tables ≡ lent.tables → done.injected ≡ lent.injected
+pub works_on : (workers : ℕ) (v : OrderedNetView) (lent done : Lent) → IsLent workers v lent.tables lent.injected lent.counts.items lent.stores.items lent.jobs.items → done.tables ≡ lent.tables → done.injected ≡ lent.injected
     → done.counts.items ≡ lent.counts.items → done.stores.items ≡ lent.stores.items → AllZip (HasWorked lent.tables lent.counts.items) lent.jobs.items done.jobs.items → ((j : ℕ) (d : Job) → j < length done.jobs.items → (get_or done.jobs.items j d).is_short ≡ false)
     → IsWorked workers v done.tables done.injected done.counts.items done.stores.items done.jobs.items
 works_on workers v lent done is tables injected counts stores worked enough =

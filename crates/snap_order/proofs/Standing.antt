@@ -1,4 +1,4 @@
--- Runs in turn keep pace: no packet is left behind.
+-- Runs in order keep pace: no packet is left behind.
 use Rattle.std.proofs.Common.{◌≡◌, ◌≢◌, ◌⊎◌, inl, inr, ⊎_elim, ℕ, zero, suc, ◌+◌, ◌<◌, ◌≤◌, Bool, true, false, cond, List, [], ◌∷◌, ◌++◌, map, take, drop, length, Some, refl, sym, ap, subst, ◌∙◌, arith}
 use Rattle.std.specs.Prelude.{slice_get, is_some}
 use Rattle.std.specs.List.{All}
@@ -18,13 +18,13 @@ use Rattle.snap_rows.specs.Home.{AtHome}
 use Rattle.snap_rows.specs.Network.{Copy, Inject, Step, moved}
 use Rattle.snap_rows.proofs.Later.{rank_is_below}
 use Rattle.snap_rows.proofs.Rows.{All-get}
-use Rattle.snap_gen.specs.InTurn.{Becomes, SentOn, Waiting, Forks, TakesTurns}
-use Rattle.snap_gen.specs.InTurn as turn
-use Rattle.snap_gen.proofs.Leaving.{split_up}
-use Rattle.snap_gen.proofs.Nodes.{IsTwo, OutDoes, is_delivered, is_carried, out_does}
+use Rattle.snap_faithful.specs.InOrder.{Becomes, SentOn, Waiting, Forks, TakesTurns}
+use Rattle.snap_faithful.specs.InOrder as turn
+use Rattle.snap_faithful.proofs.Leaving.{split_up}
+use Rattle.snap_faithful.proofs.Nodes.{IsTwo, OutDoes, is_delivered, is_carried, out_does}
 use Rattle.snap_rows.specs.Stepping.{ComesTo, visit, walk}
-use Rattle.snap_order.specs.Ordered.{Ordered, Turn, IsBefore, LeadsInTurn, injects, moves, visits, waits, left_by}
-use Rattle.snap_order.specs.Rounding.{KeepsPace, Stands, come_to, early, is_early}
+use Rattle.snap_order.specs.Ordered.{Ordered, OrderedHappening, AwaitsVisit, LeadsInOrder, injects, moves, visits, waits, left_by}
+use Rattle.snap_order.specs.Rounding.{KeepsPace, Stands, come_to, early, is_above_leaf}
 use Rattle.snap_order.specs.Serving.{StandsBefore}
 use Rattle.snap_order.specs.Turning.{rank_behind}
 use Rattle.snap_order.proofs.Placed.{Placed}
@@ -68,13 +68,13 @@ in_put : {A : Type 0} (list : List A) (j : ℕ) (xs : List A) (d : A) → IsIn d
 in_put list j xs d i = in_back (take j list) (xs ++ drop (j + 1) list) d (in_front xs (drop (j + 1) list) d i.0 i.1)
 
 -- ---- heads
-pub stands_early : (head : Head) (r : ℕ) → StandsBefore head r → is_early head ≡ true
+pub stands_early : (head : Head) (r : ℕ) → StandsBefore head r → is_above_leaf head ≡ true
 stands_early (Walk n) r stands = refl
 stands_early (Visit q n) r stands = refl
 stands_early (Stage n i) r stands = absurd stands
 stands_early (Out p) r stands = absurd stands
 
-pub comes_early : {t : Tables} {w : ℕ} {k : List ℕ} {m : Arrays} {head : Head} {r n : ℕ} → ComesTo t w k m head r n → is_early head ≡ true
+pub comes_early : {t : Tables} {w : ℕ} {k : List ℕ} {m : Arrays} {head : Head} {r n : ℕ} → ComesTo t w k m head r n → is_above_leaf head ≡ true
 comes_early visit = refl
 comes_early (walk some follow) = refl
 
@@ -90,17 +90,17 @@ stands_once (Out p) q r a b = absurd a
 
 -- one, if the copy hasn't forked
 abbrev early_count : (c : Copy) → ℕ
-early_count c = cond (is_early c.head) 1 0
+early_count c = cond (is_above_leaf c.head) 1 0
 
 early_cons : (c : Copy) (cs : List Copy) → length (early (c ∷ cs)) ≡ early_count c + length (early cs)
-early_cons c cs = by (is_early c.head)
+early_cons c cs = by (is_above_leaf c.head)
   where
     by : (b : Bool) → length (cond b (c ∷ early cs) (early cs)) ≡ cond b 1 0 + length (early cs)
     by true = omega arith
     by false = omega arith
 
 early_append : (xs ys : List Copy) → length (early (xs ++ ys)) ≡ length (early xs) + length (early ys)
-early_append xs ys = ap length (filter-append (λ (c : Copy). is_early c.head) xs ys) ∙ length-append (early xs) (early ys)
+early_append xs ys = ap length (filter-append (λ (c : Copy). is_above_leaf c.head) xs ys) ∙ length-append (early xs) (early ys)
 
 early_replaced : (list : List Copy) (j : ℕ) (c : Copy) (xs : List Copy) → slice_get list j ≡ Some c → length (early (take j list ++ (xs ++ drop (j + 1) list))) + early_count c ≡ length (early list) + length (early xs)
 early_replaced list j c xs found =
@@ -113,7 +113,7 @@ early_replaced list j c xs found =
     let f = early_cons c back in
     omega (arith, a, b, d, e, f)
 
-pub early_some : (cs : List Copy) (k : ℕ) (c : Copy) → slice_get cs k ≡ Some c → is_early c.head ≡ true → 0 < length (early cs)
+pub early_some : (cs : List Copy) (k : ℕ) (c : Copy) → slice_get cs k ≡ Some c → is_above_leaf c.head ≡ true → 0 < length (early cs)
 early_some cs k c is e =
     let a = early_replaced cs k c [] is in
     let one : early_count c ≡ 1 = ap (λ b. cond {A = ℕ} b 1 0) e in
@@ -132,23 +132,23 @@ module _ (t : Tables) (two : IsTwo t) where
   -- what a copy does that is before no visit
   pub data Goes (c : Copy) : Action → Type 0 where
     keeps : {r y v : ℕ} → StandsBefore c.head r → Goes c (Forward y (Visit r v))
-    carries : {y p : ℕ} → is_early c.head ≡ false → Goes c (Forward y (Out p))
-    delivers : {p : ℕ} → is_early c.head ≡ false → Goes c (Deliver p)
+    carries : {y p : ℕ} → is_above_leaf c.head ≡ false → Goes c (Forward y (Out p))
+    delivers : {p : ℕ} → is_above_leaf c.head ≡ false → Goes c (Deliver p)
     unranked : {copies : List Sent} {lost : ℕ} → ranks t ≡ 0 → Goes c (Fork copies lost)
 
   passed : (c : Copy) (r : ℕ) {m m' : Arrays} {a : Action} → StandsBefore c.head r → Passes t two c.number r m m' a → Goes c a
   passed c r stands sent_on = keeps stands
   passed c r stands (forks_at_once none) = unranked none
 
-  out : (c : Copy) {p : ℕ} {m m' : Arrays} {a : Action} → is_early c.head ≡ false → OutDoes p m m' a → Goes c a
+  out : (c : Copy) {p : ℕ} {m m' : Arrays} {a : Action} → is_above_leaf c.head ≡ false → OutDoes p m m' a → Goes c a
   out c late is_delivered = delivers late
   out c late is_carried = carries late
 
-  pub goes : (s : Ordered) (c : Copy) (m : Arrays) (a : Action) (head : Head) → c.head ≡ head → Placed t c → ((r n : ℕ) → ¬ IsBefore t s.net c r n) → Handles t c.at c.packet (s.net.stores c.at) c.head m a → Goes c a
+  pub goes : (s : Ordered) (c : Copy) (m : Arrays) (a : Action) (head : Head) → c.head ≡ head → Placed t c → ((r n : ℕ) → ¬ AwaitsVisit t s.net c r n) → Handles t c.at c.packet (s.net.stores c.at) c.head m a → Goes c a
   goes s c m a (Walk n) e p none does = passed c 0 (subst (λ h. StandsBefore h 0) (sym e) refl) (passes t two c.number c.head 0 (subst (λ h. StandsBefore h 0) (sym e) refl) (λ q v to own. none q v (record { comes = to; owner = own })) does)
   goes s c m a (Visit r n) e p none does = passed c r (subst (λ h. StandsBefore h r) (sym e) refl) (passes t two c.number c.head r (subst (λ h. StandsBefore h r) (sym e) refl) (λ q v to own. none q v (record { comes = to; owner = own })) does)
   goes s c m a (Stage n i) e p none does = absurd (let one = (subst (AtHome t c.at) e p.home).0 in let both = two.version in omega (arith, one, both))
-  goes s c m a (Out port) e p none does = out c (ap is_early e) (out_does (subst (λ h. Handles t c.at c.packet (s.net.stores c.at) h m a) e does))
+  goes s c m a (Out port) e p none does = out c (ap is_above_leaf e) (out_does (subst (λ h. Handles t c.at c.packet (s.net.stores c.at) h m a) e does))
 
   -- ---- a copy has made a step
   module _ (s s' : Ordered) (c : Copy) (j : ℕ) (found : slice_get s.net.flying j ≡ Some c) (pace : KeepsPace t s) (xs : List Copy) (put : s'.net.flying ≡ take j s.net.flying ++ (xs ++ drop (j + 1) s.net.flying)) (injected : s'.net.injected ≡ s.net.injected) where
@@ -194,7 +194,7 @@ module _ (t : Tables) (two : IsTwo t) where
               (others q i st)
 
       -- it had forked
-      pub pace_late : is_early c.head ≡ false → length (early xs) ≡ 0 → KeepsPace t s'
+      pub pace_late : is_above_leaf c.head ≡ false → length (early xs) ≡ 0 → KeepsPace t s'
       pace_late late none = record {
         stand = λ q i low le lt.
             ⊎_elim
@@ -338,7 +338,7 @@ module _ (t : Tables) (two : IsTwo t) where
   turned_some {w = w} {k = k} {i = i} {b = b} own now (turn.visits {r = r} there at made more rest) = let c = (counts t w k i rest).up in omega (arith, c)
   turned_some own now (turn.concludes there at made last row) = omega (arith, last)
 
-  pub step_pace : {s s' : Ordered} {j : ℕ} {us : List Turn} → LeadsInTurn t s (Step j) s' us → All (Placed t) s.net.flying → KeepsPace t s → KeepsPace t s'
+  pub step_pace : {s s' : Ordered} {j : ℕ} {us : List OrderedHappening} → LeadsInOrder t s (Step j) s' us → All (Placed t) s.net.flying → KeepsPace t s → KeepsPace t s'
   step_pace {s = s} {s' = s'} (moves {i = i} {c = c} {m = m} {a = a} found none does) all pace =
       pace_goes s s' c i found pace (moved c a) refl refl (λ q. refl) (goes s c m a c.head refl (All-get (Placed t) s.net.flying i c all found) none does) refl
   step_pace {s = s} {s' = s'} (visits {i = i} {c = c} {r = r} {n = n} {m = m} {h = h} {b = b} found before now takes) all pace = by b takes refl
@@ -363,7 +363,7 @@ pace_first t s none empty zero_handled = record {
     come zero = none
     come (suc q) = zero_handled q
 
-pub inject_pace : {t : Tables} {s s' : Ordered} {port : ℕ} {k : List ℕ} {us : List Turn} → LeadsInTurn t s (Inject port k) s' us → KeepsPace t s → KeepsPace t s'
+pub inject_pace : {t : Tables} {s s' : Ordered} {port : ℕ} {k : List ℕ} {us : List OrderedHappening} → LeadsInOrder t s (Inject port k) s' us → KeepsPace t s → KeepsPace t s'
 inject_pace {t = t} {s = s} {s' = s'} {k = k} (injects {w = w} at first) pace = record {
   stand = stand;
   count = λ some.

@@ -1,4 +1,4 @@
--- A step whose visits are in turn is one of the ordered network.
+-- A step whose visits are in order is one of the ordered network.
 use Rattle.std.proofs.Common.{Bor, ◌≡◌, ◌≢◌, ◌⊎◌, inl, inr, ⊎_elim, ℕ, ◌+◌, ◌<◌, ◌≤◌, Bool, true, false, List, [], ◌∷◌, ◌++◌, map, take, drop, get_or, Some, refl, sym, ap, subst, ◌∙◌, arith}
 use Rattle.std.specs.Prelude.{slice_get, ◌==◌, if◌then◌else◌}
 use Rattle.std.proofs.lemmas.Option.{slice_get_within, same_Some}
@@ -26,17 +26,17 @@ use Rattle.snap_net.specs.declared.flying.Flying.{Flying}
 use Rattle.snap_net.specs.declared.happened.Moved.{Moved}
 use Rattle.snap_net.specs.Flights.{spliced}
 use Rattle.snap_net.specs.Moves.{Changed, HasMade, StepsAt, flights, left_by, told_by}
-use Rattle.snap_net.specs.Shown.{Held, IsHeld, flown, store_of}
+use Rattle.snap_net.specs.Shown.{NetView, IsNetView, flown, store_of}
 use Rattle.snap_net.proofs.Splices.{same_place, there_now}
 use Rattle.snap_net.proofs.Steps.{acts_leave, acts_tell, copy_shown, flown_moved, moving_of, shows_replaced}
 use Rattle.snap_runs.specs.Tallies.{IsThere}
-use Rattle.snap_gen.specs.Agreement.{lost_of, sent_of}
-use Rattle.snap_gen.specs.InTurn.{Becomes, SentOn, Waiting, Forks, TakesTurns, handled_more}
-use Rattle.snap_gen.specs.InTurn as turns
-use Rattle.snap_gen.proofs.Nodes.{IsTwo, no_leaf}
-use Rattle.snap_order.specs.Ordered.{Ordered, Turn, Happens, Waits, LeadsInTurn, turn_of, visited}
+use Rattle.snap_faithful.specs.Agreement.{lost_of, sent_of}
+use Rattle.snap_faithful.specs.InOrder.{Becomes, SentOn, Waiting, Forks, TakesTurns, handled_more}
+use Rattle.snap_faithful.specs.InOrder as turns
+use Rattle.snap_faithful.proofs.Nodes.{IsTwo, no_leaf}
+use Rattle.snap_order.specs.Ordered.{Ordered, OrderedHappening, Happens, Waits, LeadsInOrder, turn_of, visited}
 use Rattle.snap_order.specs.Ordered as ordered
-use Rattle.snap_order.specs.Shown.{IsDoneInTurn, OrderedHeld, ShowsInTurn, TellsTurn, told_of}
+use Rattle.snap_order.specs.Shown.{SimulatesInOrder, OrderedNetView, RepresentsInOrder, TellsTurn, told_of}
 use Rattle.snap_order.specs.Turning.{HasCounted, behind_after, behind_at, fate_behind, first_of, next_rank, rank_behind}
 use Rattle.snap_order.proofs.Handling.{counted_so}
 use Rattle.snap_order.proofs.Taking.{counts, more_other}
@@ -212,16 +212,16 @@ pub counted_none : {old new : List ℕ} {r e number : ℕ} → HasCounted old r 
 counted_none {r = r} counted same j = ⊎_elim (λ (low : j < r). counted.others j (inl low)) (λ (high : r ≤ j). counted.others j (inr (omega (arith, high, same)))) (cases_lt j r)
 
 -- ---- a step of a network
--- the visits that are in turn for packet i
-abbrev pub in_turn : List ℕ → ℕ → ℕ → Bool
-in_turn counted i j = get_or counted j 0 == i
+-- the visits that are in order for packet i
+abbrev pub in_order : List ℕ → ℕ → ℕ → Bool
+in_order counted i j = get_or counted j 0 == i
 
-module _ (v new : OrderedHeld) (k : ℕ) (two : IsTwo v.net.tables) (tables : new.net.tables ≡ v.net.tables) (injected : new.net.injected ≡ v.net.injected) where
+module _ (v new : OrderedNetView) (k : ℕ) (two : IsTwo v.net.tables) (tables : new.net.tables ≡ v.net.tables) (injected : new.net.injected ≡ v.net.injected) where
   abbrev t : Tables
   t = v.net.tables
 
   -- of this copy, of which this becomes
-  module _ (s : Ordered) (shows : ShowsInTurn v s) (x : Copy) (is : slice_get s.net.flying k ≡ Some x) (f : Fate) (m : Arrays) (tells : Moved) (changed : Changed v.net.stores new.net.stores x.at m)
+  module _ (s : Ordered) (shows : RepresentsInOrder v s) (x : Copy) (is : slice_get s.net.flying k ≡ Some x) (f : Fate) (m : Arrays) (tells : Moved) (changed : Changed v.net.stores new.net.stores x.at m)
       (gone : new.net.flying ≡ spliced v.net.flying k 1 (left_by t (flown x) f)) (told : tells ≡ told_by t (flown x) f) (found : slice_get v.net.flying k ≡ Some (flown x)) where
     abbrev old : Arrays
     old = store_of v.net.stores x.at
@@ -233,11 +233,11 @@ module _ (v new : OrderedHeld) (k : ℕ) (two : IsTwo v.net.tables) (tables : ne
     behind = ap (behind_after t first new.net.flying k) told ∙ behind_told t first v.net.flying new.net.flying k (flown x) f found gone
 
     abbrev Done : Type 0
-    Done = (s' : Ordered) × (us : List Turn) × LeadsInTurn t s (Step k) s' us × ShowsInTurn new s' × TellsTurn tells us
+    Done = (s' : Ordered) × (us : List OrderedHappening) × LeadsInOrder t s (Step k) s' us × RepresentsInOrder new s' × TellsTurn tells us
 
     -- with the copies xs in its place
     after : (xs : List Copy) (h : ℕ → ℕ) → map flown xs ≡ left_by t (flown x) f → ((j : ℕ) → h j ≡ get_or new.counts j 0)
-        → ShowsInTurn new (record { net = record s.net { stores = λ w. if w == x.at then m else s.net.stores w; flying = take k s.net.flying ++ (xs ++ drop (k + 1) s.net.flying) }; handled = h })
+        → RepresentsInOrder new (record { net = record s.net { stores = λ w. if w == x.at then m else s.net.stores w; flying = take k s.net.flying ++ (xs ++ drop (k + 1) s.net.flying) }; handled = h })
     after xs h left handled = record { net = shows_replaced v.net new.net s.net k x m xs shows.net changed injected (gone ∙ ap (spliced v.net.flying k 1) (sym left)); handled = handled }
 
     -- it makes no visits
@@ -290,28 +290,28 @@ module _ (v new : OrderedHeld) (k : ℕ) (two : IsTwo v.net.tables) (tables : ne
         kept same w false e = changed.others w (eqb-false w x.at e)
 
   -- as its switch makes it
-  made_so : (s : Ordered) → ShowsInTurn v s → (x : Copy) → slice_get s.net.flying k ≡ Some x → (tells : Moved) → slice_get v.net.flying k ≡ Some (flown x)
-      → HasMade (in_turn v.counts x.number) t (flown x) k v.net.stores v.net.flying new.net.stores new.net.flying tells
+  made_so : (s : Ordered) → RepresentsInOrder v s → (x : Copy) → slice_get s.net.flying k ≡ Some x → (tells : Moved) → slice_get v.net.flying k ≡ Some (flown x)
+      → HasMade (in_order v.counts x.number) t (flown x) k v.net.stores v.net.flying new.net.stores new.net.flying tells
       → HasCounted v.counts (first_of t x.head) (behind_after t (first_of t x.head) new.net.flying k tells) (x.number + 1) new.counts
-      → (s' : Ordered) × (us : List Turn) × LeadsInTurn t s (Step k) s' us × ShowsInTurn new s' × TellsTurn tells us
+      → (s' : Ordered) × (us : List OrderedHappening) × LeadsInOrder t s (Step k) s' us × RepresentsInOrder new s' × TellsTurn tells us
   made_so s shows x is tells found made counted = by made.steps
     where
-      by : Steps t x.at x.packet (in_turn v.counts x.number) (store_of v.net.stores x.at) x.head made.arrays made.fate → (s' : Ordered) × (us : List Turn) × LeadsInTurn t s (Step k) s' us × ShowsInTurn new s' × TellsTurn tells us
+      by : Steps t x.at x.packet (in_order v.counts x.number) (store_of v.net.stores x.at) x.head made.arrays made.fate → (s' : Ordered) × (us : List OrderedHappening) × LeadsInOrder t s (Step k) s' us × RepresentsInOrder new s' × TellsTurn tells us
       by (stepping.goes {a = a} early acts does) = passes s shows x is made.fate made.arrays tells made.changed made.flying made.tells found a early acts does counted
       by (stepping.visits {r = r} {n = n} version comes own did) =
           ⊎_elim
           (λ w. waits_there s shows x is made.fate made.arrays tells made.changed made.flying made.tells found r n comes own (eqb-false (get_or v.counts r 0) x.number w.2) w.0 w.1 counted)
           (λ d. turns_made s shows x is made.fate made.arrays tells made.changed made.flying made.tells found r n comes own (eqb-true (get_or v.counts r 0) x.number d.0) d.1.0 d.1.1 d.1.2 d.1.3 counted)
-          (turns_taken t x.at x.packet x.number (in_turn v.counts x.number) s.handled (store_of v.net.stores x.at) r n (λ j e. shows.handled j ∙ eqb-true (get_or v.counts j 0) x.number e)
+          (turns_taken t x.at x.packet x.number (in_order v.counts x.number) s.handled (store_of v.net.stores x.at) r n (λ j e. shows.handled j ∙ eqb-true (get_or v.counts j 0) x.number e)
           (λ j e same. eqb-false (get_or v.counts j 0) x.number e (sym (shows.handled j) ∙ same)) own made.fate did)
 
-  pub done_in_turn : (c : Flying) (tells : Moved) → slice_get v.net.flying k ≡ Some c → StepsAt (in_turn v.counts c.number) v.net k new.net tells
-      → HasCounted v.counts (first_of t c.head) (behind_after t (first_of t c.head) new.net.flying k tells) (c.number + 1) new.counts → IsDoneInTurn v (Step k) new (TellsTurn tells)
-  done_in_turn c tells found made counted s shows =
+  pub done_in_order : (c : Flying) (tells : Moved) → slice_get v.net.flying k ≡ Some c → StepsAt (in_order v.counts c.number) v.net k new.net tells
+      → HasCounted v.counts (first_of t c.head) (behind_after t (first_of t c.head) new.net.flying k tells) (c.number + 1) new.counts → SimulatesInOrder v (Step k) new (TellsTurn tells)
+  done_in_order c tells found made counted s shows =
       let x = copy_shown v.net s.net k c shows.net found in
-      subst (λ (c : Flying). slice_get v.net.flying k ≡ Some c → HasMade (in_turn v.counts c.number) t c k v.net.stores v.net.flying new.net.stores new.net.flying tells
+      subst (λ (c : Flying). slice_get v.net.flying k ≡ Some c → HasMade (in_order v.counts c.number) t c k v.net.stores v.net.flying new.net.stores new.net.flying tells
       → HasCounted v.counts (first_of t c.head) (behind_after t (first_of t c.head) new.net.flying k tells) (c.number + 1) new.counts
-      → (s' : Ordered) × (us : List Turn) × LeadsInTurn t s (Step k) s' us × ShowsInTurn new s' × TellsTurn tells us) x.2
+      → (s' : Ordered) × (us : List OrderedHappening) × LeadsInOrder t s (Step k) s' us × RepresentsInOrder new s' × TellsTurn tells us) x.2
       (λ found made counted. made_so s shows x.0 x.1 tells found made counted) found (made c found) counted
 
 -- ---- the ranks that are counted
@@ -350,12 +350,12 @@ counts_order t two may k old from new to c tells home found made =
     let behind : behind_after t first to k tells ≡ fate_behind t first made.fate = ap (behind_after t first to k) made.tells ∙ behind_told t first from to k c made.fate found made.flying in
     subst (λ e. (first ≤ e) × (e ≤ ranks t)) (sym behind) (fates_order t two c.at c.packet may (store_of old c.at) c.head made.arrays made.fate home made.steps)
 
-pub counted_order : (v : OrderedHeld) (new : Held) (k : ℕ) (c : Flying) (tells : Moved) (counted : List ℕ) (first behind : ℕ) → IsHeld v.net → v.net.tables.version ≡ 2 → slice_get v.net.flying k ≡ Some c → counted ≡ v.counts → StepsAt (in_turn counted c.number) v.net k new tells
+pub counted_order : (v : OrderedNetView) (new : NetView) (k : ℕ) (c : Flying) (tells : Moved) (counted : List ℕ) (first behind : ℕ) → IsNetView v.net → v.net.tables.version ≡ 2 → slice_get v.net.flying k ≡ Some c → counted ≡ v.counts → StepsAt (in_order counted c.number) v.net k new tells
     → first ≡ first_of v.net.tables c.head → new.tables ≡ v.net.tables → behind ≡ behind_after new.tables first new.flying k tells → (first ≤ behind) × (behind ≤ ranks v.net.tables)
 counted_order v new k c tells counted first behind held version found same made from tables to =
     let t = v.net.tables in
     let home : AtHome t c.at c.head = All-get (λ (x : Flying). AtHome t x.at x.head) v.net.flying k c held.homes found in
-    let o = counts_order t (record { form = held.form; valid = held.valid; version = version }) (in_turn counted c.number) k v.net.stores v.net.flying new.stores new.flying c tells home found (made c found) in
+    let o = counts_order t (record { form = held.form; valid = held.valid; version = version }) (in_order counted c.number) k v.net.stores v.net.flying new.stores new.flying c tells home found (made c found) in
     let e : behind ≡ behind_after t (first_of t c.head) new.flying k tells = to ∙ (λ i. behind_after (tables i) (from i) new.flying k tells) in
     let low = o.0 in
     let high = o.1 in

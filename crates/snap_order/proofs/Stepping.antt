@@ -5,22 +5,22 @@ use Rattle.std.proofs.lemmas.List.{length-append, length-map, map-append}
 use Rattle.snap_rows.specs.declared.tables.Tables.{Tables}
 use Rattle.snap_rows.specs.Network.{Copy, Step, moved}
 use Rattle.snap_net.specs.Shown.{flown}
-use Rattle.snap_gen.proofs.Leaving.{split_up}
+use Rattle.snap_faithful.proofs.Leaving.{split_up}
 use Rattle.snap_runs.proofs.Steps.{shown}
 use Rattle.snap_net.specs.declared.happened.Moved.{Moved}
-use Rattle.snap_order.specs.Ordered.{Ordered, Turn, LeadsInTurn, left_by, moves, visits, waits}
+use Rattle.snap_order.specs.Ordered.{Ordered, OrderedHappening, LeadsInOrder, left_by, moves, visits, waits}
 use Rattle.snap_order.specs.Rounding.{HasRoundedTo, IsRoundDone}
 use Rattle.snap_order.specs.Rounds.{IsRound, ends, takes}
-use Rattle.snap_order.specs.Shown.{IsDoneInTurn, OrderedHeld, ShowsInTurn, TellsTurn, told_of}
+use Rattle.snap_order.specs.Shown.{SimulatesInOrder, OrderedNetView, RepresentsInOrder, TellsTurn, told_of}
 
-pub rounded_first : (v : OrderedHeld) (s : Ordered) → ShowsInTurn v s → HasRoundedTo v.net.tables s 0 v []
+pub rounded_first : (v : OrderedNetView) (s : Ordered) → RepresentsInOrder v s → HasRoundedTo v.net.tables s 0 v []
 rounded_first v s shows = record { state = s; events = []; turns = []; shows = shows; told = refl; within = omega arith; on = λ s' es us rest. rest }
 
-flying_shown : (v : OrderedHeld) (s : Ordered) → ShowsInTurn v s → length v.net.flying ≡ length s.net.flying
+flying_shown : (v : OrderedNetView) (s : Ordered) → RepresentsInOrder v s → length v.net.flying ≡ length s.net.flying
 flying_shown v s shows = sym (ap length shows.net.flying) ∙ length-map s.net.flying flown
 
 -- a state that the network shows
-some_state : (v : OrderedHeld) → (s : Ordered) × ShowsInTurn v s
+some_state : (v : OrderedNetView) → (s : Ordered) × RepresentsInOrder v s
 some_state v = let s = shown v.net in (record { net = s.0; handled = λ r. get_or v.counts r 0 }, record { net = s.1; handled = λ r. refl })
 
 few_replaced : (list : List Copy) (i : ℕ) (c : Copy) (xs : List Copy) → slice_get list i ≡ Some c → length list ≤ length (take i list ++ (xs ++ drop (i + 1) list)) + 1
@@ -31,10 +31,10 @@ few_replaced list i c xs found =
     let e = length-append xs (drop (i + 1) list) in
     omega (arith, a, b, d, e)
 
-module _ (t : Tables) (s : Ordered) (place : ℕ) (mid new : OrderedHeld) (done : List Moved) (told : Moved) (same : mid.net.tables ≡ t) (does : IsDoneInTurn mid (Step place) new (TellsTurn told)) (below : place < length mid.net.flying) where
+module _ (t : Tables) (s : Ordered) (place : ℕ) (mid new : OrderedNetView) (done : List Moved) (told : Moved) (same : mid.net.tables ≡ t) (does : SimulatesInOrder mid (Step place) new (TellsTurn told)) (below : place < length mid.net.flying) where
   pub rounded_more : (next : ℕ) → next + length mid.net.flying ≡ place + 1 + length new.net.flying → HasRoundedTo t s place mid done → HasRoundedTo t s next new (done ++ told ∷ [])
   rounded_more next counted h =
-      let d = subst (λ t'. (s' : Ordered) × (ts : List Turn) × LeadsInTurn t' h.state (Step place) s' ts × ShowsInTurn new s' × TellsTurn told ts) same (does h.state h.shows) in
+      let d = subst (λ t'. (s' : Ordered) × (ts : List OrderedHappening) × LeadsInOrder t' h.state (Step place) s' ts × RepresentsInOrder new s' × TellsTurn told ts) same (does h.state h.shows) in
       let a = flying_shown mid h.state h.shows in
       let b = flying_shown new d.0 d.3 in
       let last : told ∷ [] ≡ map told_of d.1 = ap (λ x. x ∷ []) d.4.2 ∙ ap (map told_of) (sym d.4.1) in
@@ -50,7 +50,7 @@ module _ (t : Tables) (s : Ordered) (place : ℕ) (mid new : OrderedHeld) (done 
             (subst (IsRound t s (h.events ++ (Step place ∷ es)) s') (sym (append_assoc h.turns d.1 us)) (h.on s' (Step place ∷ es) (d.1 ++ us) (takes d.2 (omega (arith, a, b, counted)) rest)));
       }
 
-pub rounded_all : (old now : OrderedHeld) (done : List Moved) (place : ℕ) → length now.net.flying ≤ place → ((s : Ordered) → ShowsInTurn old s → HasRoundedTo old.net.tables s place now done) → IsRoundDone old now done
+pub rounded_all : (old now : OrderedNetView) (done : List Moved) (place : ℕ) → length now.net.flying ≤ place → ((s : Ordered) → RepresentsInOrder old s → HasRoundedTo old.net.tables s place now done) → IsRoundDone old now done
 rounded_all old now done place over so s shows =
     let h = so s shows in
     let a = flying_shown now h.state h.shows in
@@ -65,12 +65,12 @@ rounded_all old now done place over so s shows =
     )
 
 -- a step takes one copy away at most
-few_lost : {t : Tables} {s s' : Ordered} {j : ℕ} {us : List Turn} → LeadsInTurn t s (Step j) s' us → length s.net.flying ≤ length s'.net.flying + 1
+few_lost : {t : Tables} {s s' : Ordered} {j : ℕ} {us : List OrderedHappening} → LeadsInOrder t s (Step j) s' us → length s.net.flying ≤ length s'.net.flying + 1
 few_lost {s = s} (moves {i = i} {c = c} {a = a} found none does) = few_replaced s.net.flying i c (moved c a) found
 few_lost {s = s} (visits {i = i} {c = c} {b = b} found before now taking) = few_replaced s.net.flying i c (left_by c b) found
 few_lost (waits found before late) = omega arith
 
-pub few_gone : (place : ℕ) (mid new : OrderedHeld) (told : Moved) → IsDoneInTurn mid (Step place) new (TellsTurn told) → place < length mid.net.flying → length mid.net.flying ≤ length new.net.flying + 1
+pub few_gone : (place : ℕ) (mid new : OrderedNetView) (told : Moved) → SimulatesInOrder mid (Step place) new (TellsTurn told) → place < length mid.net.flying → length mid.net.flying ≤ length new.net.flying + 1
 few_gone place mid new told does below =
     let s = some_state mid in
     let d = does s.0 s.1 in

@@ -12,9 +12,9 @@ use Rattle.snap_rows.specs.Entries.{rank_at, ranks}
 use Rattle.snap_rows.specs.Home.{IsVisitAtHome}
 use Rattle.snap_rows.specs.Handles as handles
 use Rattle.snap_rows.specs.Handles.{Handles}
-use Rattle.snap_gen.specs.InTurn.{Becomes, SentOn, Waiting, Forks, handled_more, TakesTurns, seeks, waits, visits, concludes}
-use Rattle.snap_gen.proofs.Nodes.{IsTwo}
-use Rattle.snap_gen.proofs.Chained.{home_on}
+use Rattle.snap_faithful.specs.InOrder.{Becomes, SentOn, Waiting, Forks, handled_more, TakesTurns, seeks, waits, visits, concludes}
+use Rattle.snap_faithful.proofs.Nodes.{IsTwo}
+use Rattle.snap_faithful.proofs.Chained.{home_on}
 use Rattle.snap_rows.specs.Stepping.{ComesTo, visit, walk}
 use Rattle.snap_order.specs.Turning.{rank_behind}
 

@@ -11,24 +11,24 @@ use Rattle.snap_net.specs.declared.flying.Flying.{Flying}
 use Rattle.snap_net.specs.declared.happened.Moved.{Moved}
 use Rattle.snap_net.specs.Shown.{HasFrame, flown, frame_with, moving}
 use Rattle.snap_net.proofs.Steps.{frame_told, replaced_there}
-use Rattle.snap_gen.proofs.Leaving.{split_up}
-use Rattle.snap_gen.specs.InTurn.{Becomes, SentOn, Waiting, Forks}
+use Rattle.snap_faithful.proofs.Leaving.{split_up}
+use Rattle.snap_faithful.specs.InOrder.{Becomes, SentOn, Waiting, Forks}
 use Rattle.snap_runs.specs.Tallies.{IsThere}
 use Rattle.snap_runs.proofs.Playing.{is-there}
-use Rattle.snap_order.specs.Ordered.{Ordered, Turn, Happens, Stays, Waits, LeadsInTurn, left_by, moves, turn_of, visits, waits}
+use Rattle.snap_order.specs.Ordered.{Ordered, OrderedHappening, Happens, Stays, Waits, LeadsInOrder, left_by, moves, turn_of, visits, waits}
 use Rattle.snap_order.specs.Rounding.{AreThere, width}
 use Rattle.snap_order.specs.Rounds.{TakesFrom, ends, takes}
 use Rattle.snap_order.specs.Shown.{StandsTurn, frame_of_turn, told_of}
 
 -- ---- one step
 -- a step is one turn
-pub one_turn : {t : Tables} {s s' : Ordered} {j : ℕ} {us : List Turn} → LeadsInTurn t s (Step j) s' us → (u : Turn) × (us ≡ u ∷ [])
+pub one_turn : {t : Tables} {s s' : Ordered} {j : ℕ} {us : List OrderedHappening} → LeadsInOrder t s (Step j) s' us → (u : OrderedHappening) × (us ≡ u ∷ [])
 one_turn (moves {c = c} {a = a} is none does) = (Happens (happening c a), refl)
 one_turn (visits {c = c} {b = b} is before turn taking) = (turn_of c b, refl)
 one_turn (waits {c = c} {r = r} is before early) = (Waits c r, refl)
 
 -- the turn of a list of one
-the_turn : (u v : Turn) → u ∷ [] ≡ v ∷ [] → u ≡ v
+the_turn : (u v : OrderedHappening) → u ∷ [] ≡ v ∷ [] → u ≡ v
 the_turn u v one = ap (λ l. get_or l 0 v) one
 
 turned_there : (cs : List Copy) (i : ℕ) (c : Copy) (b : Becomes) → slice_get cs i ≡ Some c → StandsTurn (map flown (take i cs ++ (left_by c b ++ drop (i + 1) cs))) i (turn_of c b)
@@ -37,18 +37,18 @@ turned_there cs i c (Waiting r n) is = tt
 turned_there cs i c (Forks copies lost) is = tt
 
 -- a copy that crossed a link stands in its place
-pub turn_stands : {t : Tables} {s s' : Ordered} {i : ℕ} {us : List Turn} → LeadsInTurn t s (Step i) s' us → (u : Turn) → us ≡ u ∷ [] → StandsTurn (map flown s'.net.flying) i u
+pub turn_stands : {t : Tables} {s s' : Ordered} {i : ℕ} {us : List OrderedHappening} → LeadsInOrder t s (Step i) s' us → (u : OrderedHappening) → us ≡ u ∷ [] → StandsTurn (map flown s'.net.flying) i u
 turn_stands {s = s} {s' = s'} (moves {i = i} {c = c} {a = a} is none does) u one = subst (StandsTurn (map flown s'.net.flying) i) (the_turn (Happens (happening c a)) u one) (replaced_there s.net.flying i c a is)
 turn_stands {s = s} {s' = s'} (visits {i = i} {c = c} {b = b} is before turn taking) u one = subst (StandsTurn (map flown s'.net.flying) i) (the_turn (turn_of c b) u one) (turned_there s.net.flying i c b is)
 turn_stands {s' = s'} (waits {i = i} {c = c} {r = r} is before early) u one = subst (StandsTurn (map flown s'.net.flying) i) (the_turn (Waits c r) u one) tt
 
-pub turn_there : (cs : List Flying) (place : ℕ) (u : Turn) → StandsTurn cs place u → IsThere cs place (told_of u)
+pub turn_there : (cs : List Flying) (place : ℕ) (u : OrderedHappening) → StandsTurn cs place u → IsThere cs place (told_of u)
 turn_there cs place (Happens h) stands = is-there cs place h stands
 turn_there cs place (Stays c r) stands = tt
 turn_there cs place (Waits c r) stands = tt
 
 -- a frame that is told is that of what crossed
-pub turn_framed : (cs : List Flying) (k : ℕ) (u : Turn) (moved : Moved) (bytes : List ℕ) → moved ≡ told_of u → StandsTurn cs k u → HasFrame cs k moved bytes → frame_with moved bytes ≡ frame_of_turn u
+pub turn_framed : (cs : List Flying) (k : ℕ) (u : OrderedHappening) (moved : Moved) (bytes : List ℕ) → moved ≡ told_of u → StandsTurn cs k u → HasFrame cs k moved bytes → frame_with moved bytes ≡ frame_of_turn u
 turn_framed cs k (Happens h) moved bytes tells stands framed = frame_told cs k h moved bytes tells stands framed
 turn_framed cs k (Stays c r) moved bytes tells stands framed = ap (λ m. frame_with m bytes) tells
 turn_framed cs k (Waits c r) moved bytes tells stands framed = ap (λ m. frame_with m bytes) tells
@@ -72,7 +72,7 @@ left_width c (SentOn to r n) = refl
 left_width c (Waiting r n) = refl
 left_width c (Forks copies lost) = length-map copies _
 
-turn_width : {t : Tables} {s s' : Ordered} {i : ℕ} {us : List Turn} → LeadsInTurn t s (Step i) s' us → (u : Turn) → us ≡ u ∷ [] → length s'.net.flying + 1 ≡ length s.net.flying + width (told_of u)
+turn_width : {t : Tables} {s s' : Ordered} {i : ℕ} {us : List OrderedHappening} → LeadsInOrder t s (Step i) s' us → (u : OrderedHappening) → us ≡ u ∷ [] → length s'.net.flying + 1 ≡ length s.net.flying + width (told_of u)
 turn_width {s = s} (moves {i = i} {c = c} {a = a} is none does) u one =
     replaced_length s.net.flying i c (moved c a) is ∙ ap (λ n. length s.net.flying + n) (moved_width c a ∙ ap (λ v. width (told_of v)) (the_turn (Happens (happening c a)) u one))
 turn_width {s = s} (visits {i = i} {c = c} {b = b} is before turn taking) u one =
@@ -87,16 +87,16 @@ before_kept cs xs i j c is low =
     let long : length (take i cs) ≡ i = length-take-le i cs (omega (arith, within)) in
     take-append-le j (take i cs) xs (omega (arith, long, low)) ∙ take-take j i cs low
 
-turn_keeps : {t : Tables} {s s' : Ordered} {i : ℕ} {us : List Turn} → LeadsInTurn t s (Step i) s' us → (j : ℕ) → j ≤ i → take j s'.net.flying ≡ take j s.net.flying
+turn_keeps : {t : Tables} {s s' : Ordered} {i : ℕ} {us : List OrderedHappening} → LeadsInOrder t s (Step i) s' us → (j : ℕ) → j ≤ i → take j s'.net.flying ≡ take j s.net.flying
 turn_keeps {s = s} (moves {i = i} {c = c} {a = a} is none does) j low = before_kept s.net.flying (moved c a ++ drop (i + 1) s.net.flying) i j c is low
 turn_keeps {s = s} (visits {i = i} {c = c} {b = b} is before turn taking) j low = before_kept s.net.flying (left_by c b ++ drop (i + 1) s.net.flying) i j c is low
 turn_keeps (waits is before early) j low = refl
 
 -- the next copy stands behind all that a step leaves
-next_place : {t : Tables} {s s' : Ordered} {i j : ℕ} {us : List Turn} → LeadsInTurn t s (Step i) s' us → (u : Turn) → us ≡ u ∷ [] → j + length s.net.flying ≡ i + 1 + length s'.net.flying → j ≡ i + width (told_of u)
+next_place : {t : Tables} {s s' : Ordered} {i j : ℕ} {us : List OrderedHappening} → LeadsInOrder t s (Step i) s' us → (u : OrderedHappening) → us ≡ u ∷ [] → j + length s.net.flying ≡ i + 1 + length s'.net.flying → j ≡ i + width (told_of u)
 next_place leads u one counted = let w = turn_width leads u one in omega (arith, counted, w)
 
-round_keeps : {t : Tables} {i : ℕ} {s s' : Ordered} {es : List Event} {us : List Turn} → TakesFrom t i s es s' us → (j : ℕ) → j ≤ i → take j s'.net.flying ≡ take j s.net.flying
+round_keeps : {t : Tables} {i : ℕ} {s s' : Ordered} {es : List Event} {us : List OrderedHappening} → TakesFrom t i s es s' us → (j : ℕ) → j ≤ i → take j s'.net.flying ≡ take j s.net.flying
 round_keeps (ends at) j low = refl
 round_keeps (takes leads counted rest) j low =
     let one = one_turn leads in
@@ -110,7 +110,7 @@ get_taken (suc n) (x ∷ xs) zero low = refl
 get_taken (suc n) (x ∷ xs) (suc i) low = get_taken n xs i (let l : suc i < suc n = low in omega arith)
 
 -- what stands there stays there
-stands_on : (u : Turn) (cs ds : List Flying) (i : ℕ) → take (i + width (told_of u)) ds ≡ take (i + width (told_of u)) cs → StandsTurn cs i u → StandsTurn ds i u
+stands_on : (u : OrderedHappening) (cs ds : List Flying) (i : ℕ) → take (i + width (told_of u)) ds ≡ take (i + width (told_of u)) cs → StandsTurn cs i u → StandsTurn ds i u
 stands_on (Happens (Crossed c to head)) cs ds i same stands =
     sym (get_taken (i + 1) ds i (omega arith)) ∙ ap (λ l. slice_get l i) same ∙ get_taken (i + 1) cs i (omega arith) ∙ stands
 stands_on (Happens (Delivered c port)) cs ds i same stands = tt
@@ -119,11 +119,11 @@ stands_on (Stays c r) cs ds i same stands = tt
 stands_on (Waits c r) cs ds i same stands = tt
 
 -- from a place on each turn has left its copies, one behind another, to the end of the list
-abbrev pub StandFrom : ℕ → List Flying → List Turn → Type 0
+abbrev pub StandFrom : ℕ → List Flying → List OrderedHappening → Type 0
 StandFrom place cs [] = place ≡ length cs
 StandFrom place cs (u ∷ us) = StandsTurn cs place u × StandFrom (place + width (told_of u)) cs us
 
-pub round_stands : {t : Tables} {i : ℕ} {s s' : Ordered} {es : List Event} {us : List Turn} → TakesFrom t i s es s' us → StandFrom i (map flown s'.net.flying) us
+pub round_stands : {t : Tables} {i : ℕ} {s s' : Ordered} {es : List Event} {us : List OrderedHappening} → TakesFrom t i s es s' us → StandFrom i (map flown s'.net.flying) us
 round_stands {s = s} (ends at) = at ∙ sym (length-map s.net.flying flown)
 round_stands {i = i} {s' = end} (takes {s' = mid} {us = us} leads counted rest) =
     let one = one_turn leads in
@@ -136,7 +136,7 @@ round_stands {i = i} {s' = end} (takes {s' = mid} {us = us} leads counted rest) 
     (stands_on u (map flown mid.net.flying) (map flown end.net.flying) i same (turn_stands leads u one.1), subst (λ j. StandFrom j (map flown end.net.flying) us) next (round_stands rest))
 
 -- so the notes can be made
-pub told_there : (us : List Turn) (place : ℕ) (cs : List Flying) → StandFrom place cs us → AreThere place cs (map told_of us)
+pub told_there : (us : List OrderedHappening) (place : ℕ) (cs : List Flying) → StandFrom place cs us → AreThere place cs (map told_of us)
 told_there [] place cs stands = stands
 told_there (u ∷ us) place cs stands = (turn_there cs place u stands.0, told_there us (place + width (told_of u)) cs stands.1)
 

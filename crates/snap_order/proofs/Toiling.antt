@@ -24,10 +24,10 @@ use Rattle.snap_rows.proofs.Lighter.{lighter}
 use Rattle.snap_rows.proofs.Rows.{All-get}
 use Rattle.snap_net.specs.declared.flying.Flying.{Flying}
 use Rattle.snap_net.specs.Shown.{flown}
-use Rattle.snap_gen.specs.InTurn.{Becomes, SentOn, Waiting, Forks, TakesTurns}
-use Rattle.snap_gen.proofs.Leaving.{split_up}
-use Rattle.snap_gen.proofs.Nodes.{IsTwo}
-use Rattle.snap_order.specs.Ordered.{Ordered, Turn, IsBefore, LeadsInTurn, left_by, moves, visits, waits}
+use Rattle.snap_faithful.specs.InOrder.{Becomes, SentOn, Waiting, Forks, TakesTurns}
+use Rattle.snap_faithful.proofs.Leaving.{split_up}
+use Rattle.snap_faithful.proofs.Nodes.{IsTwo}
+use Rattle.snap_order.specs.Ordered.{Ordered, OrderedHappening, AwaitsVisit, LeadsInOrder, left_by, moves, visits, waits}
 use Rattle.snap_order.specs.Rounding.{KeepsPace, come_to, early, ranks_left, toil}
 use Rattle.snap_order.specs.Rounds.{TakesFrom, ends, takes}
 use Rattle.snap_order.specs.Serving.{StandsBefore}
@@ -142,7 +142,7 @@ module _ (t : Tables) (two : IsTwo t) where
       let e : ranks_left t (Visit q v) ≡ ranks t - q = refl in
       omega (arith, a, b, e, lt, low)
 
-  turned_lighter : (s : Ordered) (c : Copy) {r n : ℕ} {m : Arrays} {h : ℕ → ℕ} (b : Becomes) → Placed t c → IsBefore t s.net c r n → s.handled r ≡ c.number → TakesTurns t c.at c.packet c.number (s.net.stores c.at) s.handled r n m h b → toil_of t (left_by c b) < burden t c.at c.head
+  turned_lighter : (s : Ordered) (c : Copy) {r n : ℕ} {m : Arrays} {h : ℕ → ℕ} (b : Becomes) → Placed t c → AwaitsVisit t s.net c r n → s.handled r ≡ c.number → TakesTurns t c.at c.packet c.number (s.net.stores c.at) s.handled r n m h b → toil_of t (left_by c b) < burden t c.at c.head
   turned_lighter s c {r = r} {m = m} (SentOn y q v) p before now taking =
       let a = one_toil t (record c { at = y; head = Visit q v; hops = c.hops + 1; steps = c.steps + 1 }) in
       let up = (counts t c.at c.packet c.number taking).up in
@@ -166,10 +166,10 @@ module _ (t : Tables) (two : IsTwo t) where
     pub is : slice_get s.net.flying j ≡ Some copy
     pub rank : ℕ
     pub node : ℕ
-    pub before : IsBefore t s.net copy rank node
+    pub before : AwaitsVisit t s.net copy rank node
     pub early : s.handled rank ≢ copy.number
 
-  step_toil : {s s' : Ordered} {j : ℕ} {us : List Turn} → LeadsInTurn t s (Step j) s' us → All (Placed t) s.net.flying → (toil_of t s'.net.flying < toil_of t s.net.flying) ⊎ IsWaiting s s' j
+  step_toil : {s s' : Ordered} {j : ℕ} {us : List OrderedHappening} → LeadsInOrder t s (Step j) s' us → All (Placed t) s.net.flying → (toil_of t s'.net.flying < toil_of t s.net.flying) ⊎ IsWaiting s s' j
   step_toil {s = s} (moves {i = i} {c = c} {m = m} {a = a} found none does) all =
       let p = All-get (Placed t) s.net.flying i c all found in
       let less = goes_lighter c (goes t two s c m a c.head refl p none does) (acts_lighter c (s.net.stores c.at) m a p does) in
@@ -187,17 +187,17 @@ module _ (t : Tables) (two : IsTwo t) where
   pub record CanGo (s : Ordered) (k : ℕ) : Type 0 where
     pub copy : Copy
     pub is : slice_get s.net.flying k ≡ Some copy
-    pub now : (r n : ℕ) → IsBefore t s.net copy r n → s.handled r ≡ copy.number
+    pub now : (r n : ℕ) → AwaitsVisit t s.net copy r n → s.handled r ≡ copy.number
 
   pub go_waits : {s s' : Ordered} {k : ℕ} → CanGo s k → IsWaiting s s' k → ⊥
   go_waits {s = s} go w =
       let one : w.copy ≡ go.copy = same_Some w.copy go.copy (sym w.is ∙ go.is) in
-      w.early (go.now w.rank w.node (subst (λ c. IsBefore t s.net c w.rank w.node) one w.before) ∙ ap (λ (c : Copy). c.number) (sym one))
+      w.early (go.now w.rank w.node (subst (λ c. AwaitsVisit t s.net c w.rank w.node) one w.before) ∙ ap (λ (c : Copy). c.number) (sym one))
 
-  pub step_falls : {s s' : Ordered} {k : ℕ} {us : List Turn} → CanGo s k → LeadsInTurn t s (Step k) s' us → All (Placed t) s.net.flying → toil_of t s'.net.flying < toil_of t s.net.flying
+  pub step_falls : {s s' : Ordered} {k : ℕ} {us : List OrderedHappening} → CanGo s k → LeadsInOrder t s (Step k) s' us → All (Placed t) s.net.flying → toil_of t s'.net.flying < toil_of t s.net.flying
   step_falls go leads all = ⊎_elim (λ less. less) (λ w. absurd (go_waits go w)) (step_toil leads all)
 
-  no_heavier : {i : ℕ} {s s' : Ordered} {es : List Event} {us : List Turn} → TakesFrom t i s es s' us → All (Placed t) s.net.flying → toil_of t s'.net.flying ≤ toil_of t s.net.flying
+  no_heavier : {i : ℕ} {s s' : Ordered} {es : List Event} {us : List OrderedHappening} → TakesFrom t i s es s' us → All (Placed t) s.net.flying → toil_of t s'.net.flying ≤ toil_of t s.net.flying
   no_heavier (ends at) all = omega arith
   no_heavier (takes leads next rest) all =
       let more = no_heavier rest (step_placed t two leads all) in
@@ -207,7 +207,7 @@ module _ (t : Tables) (two : IsTwo t) where
       (step_toil leads all)
 
   -- a round in which a copy goes leaves fewer steps to be made
-  round_lighter : {i : ℕ} {s s' : Ordered} {es : List Event} {us : List Turn} → TakesFrom t i s es s' us → All (Placed t) s.net.flying → (k : ℕ) → i ≤ k → CanGo s k → toil_of t s'.net.flying < toil_of t s.net.flying
+  round_lighter : {i : ℕ} {s s' : Ordered} {es : List Event} {us : List OrderedHappening} → TakesFrom t i s es s' us → All (Placed t) s.net.flying → (k : ℕ) → i ≤ k → CanGo s k → toil_of t s'.net.flying < toil_of t s.net.flying
   round_lighter {s = s} (ends at) all k le go = absurd (let within = slice_get_within s.net.flying k go.copy go.is in omega (arith, at, le, within))
   round_lighter {i = i} {s = s} (takes {j = j} {s' = mid} leads next rest) all k le go =
       ⊎_elim
@@ -262,9 +262,9 @@ module _ (t : Tables) (two : IsTwo t) where
       (λ (none : ranks t ≤ 0). (0, record { copy = c; is = is; now = λ r n b. absurd (let low = rank_is_below t r c.at b.owner in omega (arith, low, none)) }))
       (cases_lt 0 (ranks t))
 
-  pub round_falls : {s s' : Ordered} {es : List Event} {us : List Turn} → TakesFrom t 0 s es s' us → All (Placed t) s.net.flying → KeepsPace t s → (c : Copy) → slice_get s.net.flying 0 ≡ Some c → toil_of t s'.net.flying < toil_of t s.net.flying
+  pub round_falls : {s s' : Ordered} {es : List Event} {us : List OrderedHappening} → TakesFrom t 0 s es s' us → All (Placed t) s.net.flying → KeepsPace t s → (c : Copy) → slice_get s.net.flying 0 ≡ Some c → toil_of t s'.net.flying < toil_of t s.net.flying
   round_falls {s = s} round all pace c is = let g = some_goes s pace c is in round_lighter round all g.0 (omega arith) g.1
 
-  pub round_pace : {i : ℕ} {s s' : Ordered} {es : List Event} {us : List Turn} → TakesFrom t i s es s' us → All (Placed t) s.net.flying → KeepsPace t s → KeepsPace t s'
+  pub round_pace : {i : ℕ} {s s' : Ordered} {es : List Event} {us : List OrderedHappening} → TakesFrom t i s es s' us → All (Placed t) s.net.flying → KeepsPace t s → KeepsPace t s'
   round_pace (ends at) all pace = pace
   round_pace (takes leads next rest) all pace = round_pace rest (step_placed t two leads all) (step_pace t two leads all pace)

@@ -16,7 +16,7 @@ use Rattle.snap_net.specs.declared.flying.Flying.{Flying}
 use Rattle.snap_net.specs.Shown.{flown}
 use Rattle.snap_net.proofs.Carried.{rests_shown}
 use Rattle.snap_order.specs.declared.hand.Stepped.{Stepped}
-use Rattle.snap_order.specs.Hands.{Agrees, Part, StepsBy, StepsTo, WeavesTo, Works, idles, works, Woven, over, next, share}
+use Rattle.snap_order.specs.Hands.{Agrees, SwitchState, StepsBy, StepsTo, WeavesTo, Works, idles, works, Woven, over, next, share}
 use Rattle.snap_order.specs.Ordered.{Ordered}
 use Rattle.snap_order.specs.Rounds.{takes}
 use Rattle.snap_order.specs.Rounds as rounds
@@ -50,25 +50,25 @@ drop_one l i y ys e = ap (λ n. drop n l) (add-one i) ∙ drop_suc l i y ys e
 
 -- ---- a worker
 -- the first step of a worker
-pub record First (t : Tables) (workers : ℕ) (p : Part) (c : Flying) (cs : List Flying) (r : Part) (x : Stepped) (xs : List Stepped) : Type 0 where
-  pub part : Part
+pub record First (t : Tables) (workers : ℕ) (p : SwitchState) (c : Flying) (cs : List Flying) (r : SwitchState) (x : Stepped) (xs : List Stepped) : Type 0 where
+  pub part : SwitchState
   pub steps : StepsBy t workers c p part x
   pub rest : Works t workers part cs r xs
 
 module _ {t : Tables} {workers : ℕ} where
-  idle_same : {p q : Part} {xs : List Stepped} → Works t workers p [] q xs → q ≡ p
+  idle_same : {p q : SwitchState} {xs : List Stepped} → Works t workers p [] q xs → q ≡ p
   idle_same idles = refl
 
-  first : {p r : Part} {c : Flying} {cs : List Flying} {x : Stepped} {xs : List Stepped} → Works t workers p (c ∷ cs) r (x ∷ xs) → First t workers p c cs r x xs
+  first : {p r : SwitchState} {c : Flying} {cs : List Flying} {x : Stepped} {xs : List Stepped} → Works t workers p (c ∷ cs) r (x ∷ xs) → First t workers p c cs r x xs
   first (works {q = q} steps rest) = record { part = q; steps = steps; rest = rest }
 
-module _ (t : Tables) (workers : ℕ) (some_workers : 0 < workers) (busy : ℕ → Bool) (last : ℕ → Part) where
+module _ (t : Tables) (workers : ℕ) (some_workers : 0 < workers) (busy : ℕ → Bool) (last : ℕ → SwitchState) where
   is_worker : (w : ℕ) → w % workers < workers
   is_worker w = mod-lt w some_workers
 
   -- copy i of the state steps, which is the next of its worker
   module _ (s : Ordered) (i : ℕ) (c : Flying) (cs : List Flying) (y : Copy) (ys : List Copy) (stands : drop i s.net.flying ≡ y ∷ ys) (shown : flown y ≡ c) (low : i ≤ length s.net.flying)
-      (parts : ℕ → Part) (agrees : Agrees t workers busy parts s) (mine : busy (c.at % workers) ≡ true) (q : Part) (x : Stepped) (steps : StepsBy t workers c (parts (c.at % workers)) q x) where
+      (parts : ℕ → SwitchState) (agrees : Agrees t workers busy parts s) (mine : busy (c.at % workers) ≡ true) (q : SwitchState) (x : Stepped) (steps : StepsBy t workers c (parts (c.at % workers)) q x) where
     abbrev j : ℕ
     j = c.at % workers
 
@@ -82,7 +82,7 @@ module _ (t : Tables) (workers : ℕ) (some_workers : 0 < workers) (busy : ℕ �
     now = step.state
 
     -- the parts after it
-    abbrev pub after : ℕ → Part
+    abbrev pub after : ℕ → SwitchState
     after k = cond (nat_eq k j) q (parts k)
 
     after_own : (k : ℕ) → k ≡ j → after k ≡ q
@@ -94,24 +94,24 @@ module _ (t : Tables) (workers : ℕ) (some_workers : 0 < workers) (busy : ℕ �
     stores_now : (w : ℕ) → busy (w % workers) ≡ true → (b b' : Bool) → nat_eq w c.at ≡ b → nat_eq (w % workers) j ≡ b' → now.net.stores w ≡ (after (w % workers)).stores w
     stores_now w some true b' here e =
         let at : w ≡ c.at = eqb-true w c.at here in
-        ap now.net.stores at ∙ step.here ∙ ap q.stores (sym at) ∙ ap (λ (p : Part). p.stores w) (sym (after_own (w % workers) (ap (λ v. v % workers) at)))
+        ap now.net.stores at ∙ step.here ∙ ap q.stores (sym at) ∙ ap (λ (p : SwitchState). p.stores w) (sym (after_own (w % workers) (ap (λ v. v % workers) at)))
     stores_now w some false true away e =
         let own : w % workers ≡ j = eqb-true (w % workers) j e in
         let ne : w ≢ c.at = eqb-false w c.at away in
-        step.away w ne ∙ agrees.stores w some ∙ ap (λ k. (parts k).stores w) own ∙ sym (steps.away w own ne) ∙ ap (λ (p : Part). p.stores w) (sym (after_own (w % workers) own))
+        step.away w ne ∙ agrees.stores w some ∙ ap (λ k. (parts k).stores w) own ∙ sym (steps.away w own ne) ∙ ap (λ (p : SwitchState). p.stores w) (sym (after_own (w % workers) own))
     stores_now w some false false away e =
-        step.away w (eqb-false w c.at away) ∙ agrees.stores w some ∙ ap (λ (p : Part). p.stores w) (sym (after_other (w % workers) (eqb-false (w % workers) j e)))
+        step.away w (eqb-false w c.at away) ∙ agrees.stores w some ∙ ap (λ (p : SwitchState). p.stores w) (sym (after_other (w % workers) (eqb-false (w % workers) j e)))
 
     handled_now : (r w : ℕ) → rank_at t r ≡ Some w → busy (w % workers) ≡ true → (b b' : Bool) → nat_eq w c.at ≡ b → nat_eq (w % workers) j ≡ b' → now.handled r ≡ get_or (after (w % workers)).counts r 0
     handled_now r w own some true b' here e =
         let at : w ≡ c.at = eqb-true w c.at here in
-        step.counted r (own ∙ ap Some at) ∙ ap (λ (p : Part). get_or p.counts r 0) (sym (after_own (w % workers) (ap (λ v. v % workers) at)))
+        step.counted r (own ∙ ap Some at) ∙ ap (λ (p : SwitchState). get_or p.counts r 0) (sym (after_own (w % workers) (ap (λ v. v % workers) at)))
     handled_now r w own some false true away e =
         let same : w % workers ≡ j = eqb-true (w % workers) j e in
         let ne : rank_at t r ≢ Some c.at = λ o. eqb-false w c.at away (same_Some w c.at (sym own ∙ o)) in
-        step.others r ne ∙ agrees.handled r w own some ∙ ap (λ k. get_or (parts k).counts r 0) same ∙ sym (steps.here.others r ne) ∙ ap (λ (p : Part). get_or p.counts r 0) (sym (after_own (w % workers) same))
+        step.others r ne ∙ agrees.handled r w own some ∙ ap (λ k. get_or (parts k).counts r 0) same ∙ sym (steps.here.others r ne) ∙ ap (λ (p : SwitchState). get_or p.counts r 0) (sym (after_own (w % workers) same))
     handled_now r w own some false false away e =
-        step.others r (λ o. eqb-false w c.at away (same_Some w c.at (sym own ∙ o))) ∙ agrees.handled r w own some ∙ ap (λ (p : Part). get_or p.counts r 0) (sym (after_other (w % workers) (eqb-false (w % workers) j e)))
+        step.others r (λ o. eqb-false w c.at away (same_Some w c.at (sym own ∙ o))) ∙ agrees.handled r w own some ∙ ap (λ (p : SwitchState). get_or p.counts r 0) (sym (after_other (w % workers) (eqb-false (w % workers) j e)))
 
     pub agrees_now : Agrees t workers busy after now
     agrees_now = record {
@@ -177,7 +177,7 @@ module _ (t : Tables) (workers : ℕ) (some_workers : 0 < workers) (busy : ℕ �
     }
 
   -- no copy is left
-  weaves_none : (parts : ℕ → Part) (queues : ℕ → List Stepped) (s : Ordered) (i : ℕ) → map flown (drop i s.net.flying) ≡ [] → i ≤ length s.net.flying → ((k : ℕ) → k < workers → Works t workers (parts k) [] (last k) (queues k)) → Agrees t workers busy parts s
+  weaves_none : (parts : ℕ → SwitchState) (queues : ℕ → List Stepped) (s : Ordered) (i : ℕ) → map flown (drop i s.net.flying) ≡ [] → i ≤ length s.net.flying → ((k : ℕ) → k < workers → Works t workers (parts k) [] (last k) (queues k)) → Agrees t workers busy parts s
       → WeavesTo t workers busy last [] s i
   weaves_none parts queues s i none low all agrees =
       let empty : drop i s.net.flying ≡ [] = rests_shown (drop i s.net.flying) none in
@@ -191,15 +191,15 @@ module _ (t : Tables) (workers : ℕ) (some_workers : 0 < workers) (busy : ℕ �
         flying = ap (map flown) (sym whole) ∙ sym (append-nil (map flown (take i s.net.flying)));
         injected = refl;
         agrees = record {
-          stores = λ w some. agrees.stores w some ∙ ap (λ (p : Part). p.stores w) (sym (idle_same (all (w % workers) (is_worker w))));
-          handled = λ r w own some. agrees.handled r w own some ∙ ap (λ (p : Part). get_or p.counts r 0) (sym (idle_same (all (w % workers) (is_worker w))));
+          stores = λ w some. agrees.stores w some ∙ ap (λ (p : SwitchState). p.stores w) (sym (idle_same (all (w % workers) (is_worker w))));
+          handled = λ r w own some. agrees.handled r w own some ∙ ap (λ (p : SwitchState). get_or p.counts r 0) (sym (idle_same (all (w % workers) (is_worker w))));
         };
         away = λ w idle. refl;
         others = λ r idle. refl;
       }
 
   -- **steps at switches of different workers commute**: what the workers made of their copies is a round
-  pub weaves : (cs : List Flying) (queues : ℕ → List Stepped) (xs : List Stepped) → Woven workers cs queues xs → (parts : ℕ → Part) (s : Ordered) (i : ℕ) → map flown (drop i s.net.flying) ≡ cs → i ≤ length s.net.flying
+  pub weaves : (cs : List Flying) (queues : ℕ → List Stepped) (xs : List Stepped) → Woven workers cs queues xs → (parts : ℕ → SwitchState) (s : Ordered) (i : ℕ) → map flown (drop i s.net.flying) ≡ cs → i ≤ length s.net.flying
       → ((k : ℕ) → k < workers → Works t workers (parts k) (share workers k cs) (last k) (queues k)) → Agrees t workers busy parts s → All (λ (c : Flying). busy (c.at % workers) ≡ true) cs → WeavesTo t workers busy last xs s i
   weaves cs queues xs over parts s i stand low all agrees mine = weaves_none parts queues s i stand low all agrees
   weaves cs queues xs (next {c = c} {cs = rest} {later = later} {x = x} {xs = more} took kept woven) parts s i stand low all agrees mine =

@@ -1,4 +1,4 @@
--- The report of a run in turn: as without order, but that the frames of hops begin with the packet's number.
+-- The report of a run in order: as without order, but that the frames of hops begin with the packet's number.
 use Rattle.std.specs.Prelude.{ℕ, Bool, List}
 use Rattle.snap_rows.specs.declared.tables.Tables.{Tables}
 use Rattle.snap_rows.specs.Network.{Happening, Net}

@@ -10,40 +10,40 @@ use Rattle.snap_rows.specs.Weight.{weight}
 use Rattle.snap_net.specs.declared.flying.Flying.{Flying}
 use Rattle.snap_runs.specs.Plain.{entering}
 use Rattle.snap_runs.specs.Tallies.{IsThere}
-use Rattle.snap_order.specs.declared.play.Play.{Play}
+use Rattle.snap_order.specs.declared.play.OrderedPlay.{OrderedPlay}
 use Rattle.snap_net.specs.declared.happened.Moved.{Moved}
 use Rattle.snap_net.specs.declared.happened.Moved.TheVariants as bare
-use Rattle.snap_order.specs.Ordered.{Ordered, Turn, begin}
+use Rattle.snap_order.specs.Ordered.{Ordered, OrderedHappening, begin}
 use Rattle.snap_order.specs.Playing.{NotesTurn, Plays, left_in}
 use Rattle.snap_order.specs.Rounds.{GoesByRounds, IsRound, TakesFrom}
 use Rattle.snap_order.specs.Serving.{StandsBefore}
-use Rattle.snap_order.specs.Shown.{OrderedHeld, ShowsInTurn, told_of}
+use Rattle.snap_order.specs.Shown.{OrderedNetView, RepresentsInOrder, told_of}
 use Rattle.snap_runs.specs.declared.tally.Tally.{Tally}
 
 -- ---- a round
 -- from each state that was shown a round leads to one that is shown now, and this was told of its steps
-abbrev pub IsRoundDone : OrderedHeld → OrderedHeld → List Moved → Type 0
-IsRoundDone old new done = (s : Ordered) → ShowsInTurn old s → (s' : Ordered) × (es : List Event)
-    × (us : List Turn) × IsRound old.net.tables s es s' us × ShowsInTurn new s' × (done ≡ map told_of us)
+abbrev pub IsRoundDone : OrderedNetView → OrderedNetView → List Moved → Type 0
+IsRoundDone old new done = (s : Ordered) → RepresentsInOrder old s → (s' : Ordered) × (es : List Event)
+    × (us : List OrderedHappening) × IsRound old.net.tables s es s' us × RepresentsInOrder new s' × (done ≡ map told_of us)
 
 -- the copies before a place have made their steps: what is done from there on makes a round
-pub record HasRoundedTo (t : Tables) (s : Ordered) (place : ℕ) (now : OrderedHeld) (done : List Moved) : Type 0 where
+pub record HasRoundedTo (t : Tables) (s : Ordered) (place : ℕ) (now : OrderedNetView) (done : List Moved) : Type 0 where
   pub state : Ordered
   pub events : List Event
-  pub turns : List Turn
-  pub shows : ShowsInTurn now state
+  pub turns : List OrderedHappening
+  pub shows : RepresentsInOrder now state
   pub told : done ≡ map told_of turns
   pub within : place ≤ length state.net.flying
-  pub on : (s' : Ordered) (es : List Event) (us : List Turn)
+  pub on : (s' : Ordered) (es : List Event) (us : List OrderedHappening)
       → TakesFrom t place state es s' us → IsRound t s (events ++ es) s' (turns ++ us)
 
 -- how many copies stand in the place of one after its step
 abbrev pub width : Moved → ℕ
-width (bare.Forwarded owner from to) = 1
-width (bare.Delivered owner port k) = 0
-width (bare.Forked owner copies lost) = copies
-width (bare.Stayed owner r) = 1
-width (bare.Waited owner r) = 1
+width (bare.Forwarded number from to) = 1
+width (bare.Delivered number port k) = 0
+width (bare.Forked number copies lost) = copies
+width (bare.Stayed number r) = 1
+width (bare.Waited number r) = 1
 
 -- from a place on each step has left its copies, one behind another, to the end of the list
 abbrev pub AreThere : ℕ → List Flying → List Moved → Type 0
@@ -57,27 +57,27 @@ pub data NoteTurns (hops : Bool) (switches : List (List ℕ)) (cs : List Flying)
       → NoteTurns hops switches cs (place + width x) xs zs end → NoteTurns hops switches cs place (x ∷ xs) ys end
 
 -- a round was made
-pub record RoundsOn (t : Tables) (hops : Bool) (s : Ordered) (us : List Turn) (old new : Play) : Type 0 where
+pub record RoundsOn (t : Tables) (hops : Bool) (s : Ordered) (us : List OrderedHappening) (old new : OrderedPlay) : Type 0 where
   pub left : left_in new ≡ left_in old
   pub state : Ordered
   pub events : List Event
-  pub turns : List Turn
+  pub turns : List OrderedHappening
   pub round : IsRound t s events state turns
   pub plays : Plays t hops state (us ++ turns) new
 
-abbrev pub HasRounded : (old new : Play) → Type 0
-HasRounded old new = (t : Tables) (hops : Bool) (s : Ordered) (us : List Turn) → Plays t hops s us old → RoundsOn t hops s us old new
+abbrev pub HasRounded : (old new : OrderedPlay) → Type 0
+HasRounded old new = (t : Tables) (hops : Bool) (s : Ordered) (us : List OrderedHappening) → Plays t hops s us old → RoundsOn t hops s us old new
 
 -- ---- the pace
 -- whether a copy hasn't forked
-abbrev pub is_early : Head → Bool
-is_early (Walk n) = true
-is_early (Visit r n) = true
-is_early (Stage n i) = false
-is_early (Out p) = false
+abbrev pub is_above_leaf : Head → Bool
+is_above_leaf (Walk n) = true
+is_above_leaf (Visit r n) = true
+is_above_leaf (Stage n i) = false
+is_above_leaf (Out p) = false
 
 abbrev pub early : List Copy → List Copy
-early cs = filter (λ (c : Copy). is_early c.head) cs
+early cs = filter (λ (c : Copy). is_above_leaf c.head) cs
 
 -- so many packets have come to rank r: all that were injected, or all that the rank before has handled
 abbrev pub come_to : Ordered → ℕ → ℕ
@@ -111,15 +111,15 @@ toil t cs = sum_by (λ (c : Flying). weight t c.at c.head + ranks_left t c.head)
 
 -- ---- the schedule of rounds
 -- some first packets were injected, each with a round behind it: what is done from there on makes a run by rounds
-pub record PlaysRounds (t : Tables) (hops : Bool) (ks : List (List ℕ)) (v : Play) : Type 0 where
+pub record PlaysRounds (t : Tables) (hops : Bool) (ks : List (List ℕ)) (v : OrderedPlay) : Type 0 where
   pub events : List Event
   pub state : Ordered
-  pub turns : List Turn
+  pub turns : List OrderedHappening
   pub plays : Plays t hops state turns v
   pub pace : KeepsPace t state
   pub injected : state.net.injected + length (left_in v) ≡ length ks
-  pub on : (es : List Event) (end : Ordered) (us : List Turn) → GoesByRounds t (entering (left_in v)) state es end us
+  pub on : (es : List Event) (end : Ordered) (us : List OrderedHappening) → GoesByRounds t (entering (left_in v)) state es end us
       → GoesByRounds t (entering ks) (begin t zero_arrays) (events ++ es) end (turns ++ us)
 
-abbrev pub IsPaced : Play → Type 0
+abbrev pub IsPaced : OrderedPlay → Type 0
 IsPaced v = (ks : List (List ℕ)) × PlaysRounds v.net.net.tables v.hops ks v

@@ -6,40 +6,40 @@ use Rattle.snap_core.specs.Arrays.{zero_arrays}
 use Rattle.snap_io.specs.Sinks.{AppendsSome}
 use Rattle.snap_rows.specs.declared.tables.Tables.{Tables}
 use Rattle.snap_rows.specs.Network.{Event, Inject, Step}
-use Rattle.snap_trace.specs.declared.fault.TraceFault.TheVariants.{Write}
-use Rattle.snap_trace.specs.OneSwitch.{RunEnding}
+use Rattle.snap_report.specs.declared.fault.TraceFault.TheVariants.{Write}
+use Rattle.snap_report.specs.OneSwitch.{RunEnding}
 use Rattle.snap_runs.specs.Plain.{entering, spelled_for}
 use Rattle.snap_runs.specs.Schedules.{IsReadWhole, RefusesPackets}
-use Rattle.snap_order.specs.Ordered.{Ordered, Turn, LeadsInTurn, begin, happenings}
+use Rattle.snap_order.specs.Ordered.{Ordered, OrderedHappening, LeadsInOrder, begin, happenings}
 use Rattle.snap_order.specs.Reports.{IsRunReport}
 
 -- The copies from place i on make a step each, in the order of the list. The next of them stands behind all that a step leaves in its
 -- copy's place, so what a fork puts there isn't taken.
-pub data TakesFrom (t : Tables) : ℕ → Ordered → List Event → Ordered → List Turn → Type 0 where
+pub data TakesFrom (t : Tables) : ℕ → Ordered → List Event → Ordered → List OrderedHappening → Type 0 where
   ends : {i : ℕ} {s : Ordered} → i ≡ length s.net.flying → TakesFrom t i s [] s []
-  takes : {i j : ℕ} {s s' s'' : Ordered} {es : List Event} {u us : List Turn}
-      → LeadsInTurn t s (Step i) s' u → j + length s.net.flying ≡ i + 1 + length s'.net.flying
+  takes : {i j : ℕ} {s s' s'' : Ordered} {es : List Event} {u us : List OrderedHappening}
+      → LeadsInOrder t s (Step i) s' u → j + length s.net.flying ≡ i + 1 + length s'.net.flying
       → TakesFrom t j s' es s'' us → TakesFrom t i s (Step i ∷ es) s'' (u ++ us)
 
 -- each copy in flight makes a step
-abbrev pub IsRound : Tables → Ordered → List Event → Ordered → List Turn → Type 0
+abbrev pub IsRound : Tables → Ordered → List Event → Ordered → List OrderedHappening → Type 0
 IsRound t s es s' us = TakesFrom t 0 s es s' us
 
 -- The next packet is injected, where one is left, and then a round is made, again and again, until no packet is left and
 -- nothing is in flight.
-pub data GoesByRounds (t : Tables) : List (ℕ × List ℕ) → Ordered → List Event → Ordered → List Turn → Type 0 where
+pub data GoesByRounds (t : Tables) : List (ℕ × List ℕ) → Ordered → List Event → Ordered → List OrderedHappening → Type 0 where
   rests : {s : Ordered} → s.net.flying ≡ [] → GoesByRounds t [] s [] s []
-  injects : {port : ℕ} {k : List ℕ} {ks : List (ℕ × List ℕ)} {s s' s'' end : Ordered} {es fs : List Event} {us vs : List Turn}
-      → LeadsInTurn t s (Inject port k) s' [] → IsRound t s' es s'' us
+  injects : {port : ℕ} {k : List ℕ} {ks : List (ℕ × List ℕ)} {s s' s'' end : Ordered} {es fs : List Event} {us vs : List OrderedHappening}
+      → LeadsInOrder t s (Inject port k) s' [] → IsRound t s' es s'' us
       → GoesByRounds t ks s'' fs end vs → GoesByRounds t ((port, k) ∷ ks) s (Inject port k ∷ (es ++ fs)) end (us ++ vs)
-  goes_on : {s s' end : Ordered} {es fs : List Event} {us vs : List Turn} → s.net.flying ≢ []
+  goes_on : {s s' end : Ordered} {es fs : List Event} {us vs : List OrderedHappening} → s.net.flying ≢ []
       → IsRound t s es s' us → GoesByRounds t [] s' fs end vs → GoesByRounds t [] s (es ++ fs) end (us ++ vs)
 
 -- from empty arrays the run of the round schedule of these packets has this report
 pub record IsRoundReport (t : Tables) (hops : Bool) (ks : List (List ℕ)) (text : List ℕ) : Type 0 where
   pub events : List Event
   pub end : Ordered
-  pub turns : List Turn
+  pub turns : List OrderedHappening
   pub run : GoesByRounds t (entering ks) (begin t zero_arrays) events end turns
   pub report : IsRunReport t hops (length ks) end.net (happenings turns) text
 

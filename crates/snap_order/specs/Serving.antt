@@ -1,4 +1,4 @@
--- How far the packet has come that is alone on its way in a plain run in turn.
+-- How far the packet has come that is alone on its way in a plain run in order.
 use Rattle.std.specs.Prelude.{◌≡◌, ℕ, ◌+◌, ◌<◌, ◌≤◌, [], ◌∷◌}
 use Rattle.std.specs.List.{All}
 use Rattle.snap_rows.specs.declared.head.Head.{Head}

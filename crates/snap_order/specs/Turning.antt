@@ -6,7 +6,7 @@ use Rattle.snap_rows.specs.declared.head.Head.{Head}
 use Rattle.snap_rows.specs.declared.head.Head.TheVariants.{Walk, Stage, Out, Visit}
 use Rattle.snap_rows.specs.declared.tables.Tables.{Tables}
 use Rattle.snap_rows.specs.Entries.{ranks}
-use Rattle.snap_gen.specs.InTurn.{Becomes, SentOn, Waiting, Forks}
+use Rattle.snap_faithful.specs.InOrder.{Becomes, SentOn, Waiting, Forks}
 use Rattle.snap_net.specs.declared.flying.Flying.{Flying}
 use Rattle.snap_net.specs.declared.happened.Moved.{Moved}
 use Rattle.snap_net.specs.declared.happened.Moved.TheVariants as bare
@@ -30,11 +30,11 @@ behind_at first (Some c) = next_rank first c.head
 
 -- the rank behind the visits of a step of the copy at a place, which told this
 abbrev pub behind_after : Tables → (first : ℕ) → List Flying → ℕ → Moved → ℕ
-behind_after t first cs place (bare.Forwarded owner from to) = behind_at first (slice_get cs place)
-behind_after t first cs place (bare.Delivered owner port k) = first
-behind_after t first cs place (bare.Forked owner copies lost) = ranks t
-behind_after t first cs place (bare.Stayed owner r) = r
-behind_after t first cs place (bare.Waited owner r) = first
+behind_after t first cs place (bare.Forwarded number from to) = behind_at first (slice_get cs place)
+behind_after t first cs place (bare.Delivered number port k) = first
+behind_after t first cs place (bare.Forked number copies lost) = ranks t
+behind_after t first cs place (bare.Stayed number r) = r
+behind_after t first cs place (bare.Waited number r) = first
 
 -- the same by what becomes of the copy
 abbrev pub fate_behind : Tables → (first : ℕ) → Fate → ℕ

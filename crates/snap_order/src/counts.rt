@@ -1,4 +1,4 @@
-//! How many packets each rank has handled, and the visits that are in turn by that.
+//! How many packets each rank has handled, and the visits that are in order by that.
 
 ghost use Rattle.std.specs.Prelude.{◌≡◌, ◌≤◌, ◌==◌, get_or, length};
 ghost use Rattle.snap_runs.specs.Tallies.{IsThere};
@@ -31,14 +31,14 @@ pub(crate) fn count(counts: &mut Vec<u64>, rank: u16, behind: u16, number: u64)
     }
 }
 
-/// Admits the visits of a packet that are in turn: of each rank that has handled just the packets before it.
+/// Admits the visits of a packet that are in order: of each rank that has handled just the packets before it.
 #[derive(Clone, Copy)]
-pub(crate) struct InTurn<'a> {
+pub(crate) struct InOrder<'a> {
     pub counts: &'a [u64],
     pub number: u64,
 }
 
-impl<'a> Admit for InTurn<'a> {
+impl<'a> Admit for InOrder<'a> {
     ghost admits = { λ a rank. get_or a.counts.now rank 0 == a.number };
 
     #[inline(always)]

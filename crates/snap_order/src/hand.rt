@@ -8,7 +8,7 @@ ghost use Rattle.snap_rows.specs.Stepping.{FateFits};
 ghost use Rattle.snap_net.specs.Moves.{copies_in_flight, left_by, told_by};
 ghost use Rattle.snap_order.specs.Hands.{InPlace, IsTwo, StepsHere};
 
-use crate::counts::{InTurn, count, fate_behind, first_rank};
+use crate::counts::{InOrder, count, fate_behind, first_rank};
 use snap_core::NoMemory;
 use snap_core::store::Store;
 use snap_net::flying::Flying;
@@ -79,7 +79,7 @@ fn leave(alloc: Global, tables: &Valid, copy: Flying, fate: Fate<'_>) -> Result<
                 },
             )?;
             let moved = Moved::Forwarded {
-                owner: number,
+                number,
                 from: at,
                 to,
             };
@@ -87,7 +87,7 @@ fn leave(alloc: Global, tables: &Valid, copy: Flying, fate: Fate<'_>) -> Result<
         }
         Fate::Deliver { port } => {
             let moved = Moved::Delivered {
-                owner: number,
+                number,
                 port,
                 packet,
             };
@@ -101,7 +101,7 @@ fn leave(alloc: Global, tables: &Valid, copy: Flying, fate: Fate<'_>) -> Result<
             let count = copies.len() as u64;
             let left = forked(alloc, number, at, copies)?;
             let moved = Moved::Forked {
-                owner: number,
+                number,
                 copies: count,
                 lost,
             };
@@ -117,10 +117,7 @@ fn leave(alloc: Global, tables: &Valid, copy: Flying, fate: Fate<'_>) -> Result<
                     packet,
                 },
             )?;
-            let moved = Moved::Stayed {
-                owner: number,
-                rank,
-            };
+            let moved = Moved::Stayed { number, rank };
             Ok(Stepped { moved, left })
         }
         Fate::Wait { rank } => {
@@ -133,10 +130,7 @@ fn leave(alloc: Global, tables: &Valid, copy: Flying, fate: Fate<'_>) -> Result<
                     packet,
                 },
             )?;
-            let moved = Moved::Waited {
-                owner: number,
-                rank,
-            };
+            let moved = Moved::Waited { number, rank };
             Ok(Stepped { moved, left })
         }
     }
@@ -158,7 +152,7 @@ pub(crate) fn step_here(
     let number = copy.number;
     let first = first_rank(tables, copy.head);
     let next = number.checked_add(1).ok_or(NoMemory)?;
-    let admit = InTurn {
+    let admit = InOrder {
         counts: &*counts,
         number,
     };

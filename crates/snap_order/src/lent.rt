@@ -2,12 +2,12 @@
 
 ghost use Rattle.std.specs.Prelude.{◌≡◌, ◌<◌, ℕ, IfOk, false, get_or, length};
 ghost use Rattle.std.specs.List.{AllZip};
-ghost use Rattle.snap_net.specs.Shown.{IsHeld};
+ghost use Rattle.snap_net.specs.Shown.{IsNetView};
 ghost use Rattle.snap_order.specs.declared.job.Job.{Job};
 ghost use Rattle.snap_order.specs.Jobs.{AreReady, HasWorked};
 ghost use Rattle.snap_order.specs.Lending.{IsLent, held_again, IsHeldAgain, IsWorkedAt};
 ghost use Rattle.snap_order.specs.Rounding.{IsRoundDone};
-ghost use Rattle.snap_order.specs.Shown.{IsOrderedHeld, OrderedHeld};
+ghost use Rattle.snap_order.specs.Shown.{IsOrderedNetView, OrderedNetView};
 
 use crate::deal::{deal, exchange};
 use crate::gate::Gate;
@@ -100,15 +100,15 @@ pub(crate) fn work_out<R: Threads + Sync, G: Gate>(
 }
 
 /// Puts the network together again, and what the steps gave of the copies that stood at these switches.
-pub(crate) fn settle(
+pub(crate) fn reassemble(
     alloc: Global,
     lent: Lent,
     workers: u16,
     switches: &[u16],
 ) -> Result<Rounded, NoMemory>
     requires workers { 0 < workers }
-    requires worked { (v : OrderedHeld) × IsWorkedAt workers switches.now lent v }
-    ensures done { IfOk result (λ rounded. (v : OrderedHeld) → IsWorkedAt workers switches.now lent v → IsRoundDone v rounded.net rounded.done.items) }
+    requires worked { (v : OrderedNetView) × IsWorkedAt workers switches.now lent v }
+    ensures done { IfOk result (λ rounded. (v : OrderedNetView) → IsWorkedAt workers switches.now lent v → IsRoundDone v rounded.net rounded.done.items) }
     ensures tables { IfOk result (λ rounded. rounded.net.net.tables ≡ lent.tables) }
     ensures injected { IfOk result (λ rounded. rounded.net.net.injected ≡ lent.injected) }
 {
@@ -126,10 +126,10 @@ pub(crate) fn settle(
 // with it the network can be put together, and the round is made.
 fn gather(alloc: Global, lent: &mut Lent, workers: u16, switches: &[u16]) -> Result<Web, NoMemory>
     requires workers { 0 < workers }
-    requires worked { (v : OrderedHeld) × IsWorkedAt workers switches.now lent.old v }
-    ensures held { IfOk result (λ web. IsHeld (held_again lent.new web)) }
-    ensures ordered { IfOk result (λ web. IsOrderedHeld (record { net = held_again lent.new web; counts = lent.new.counts.items })) }
-    ensures done { IfOk result (λ web. (v new : OrderedHeld) → IsWorkedAt workers switches.now lent.old v → IsHeldAgain lent.new web new → IsRoundDone v new web.done.items) }
+    requires worked { (v : OrderedNetView) × IsWorkedAt workers switches.now lent.old v }
+    ensures held { IfOk result (λ web. IsNetView (held_again lent.new web)) }
+    ensures ordered { IfOk result (λ web. IsOrderedNetView (record { net = held_again lent.new web; counts = lent.new.counts.items })) }
+    ensures done { IfOk result (λ web. (v new : OrderedNetView) → IsWorkedAt workers switches.now lent.old v → IsHeldAgain lent.new web new → IsRoundDone v new web.done.items) }
     ensures tables { lent.new.tables ≡ lent.old.tables }
     ensures injected { lent.new.injected ≡ lent.old.injected }
 {
@@ -141,8 +141,8 @@ fn gather(alloc: Global, lent: &mut Lent, workers: u16, switches: &[u16]) -> Res
 
 // Puts the network together from what was gathered. The jobs have nothing more of it.
 fn rejoin(alloc: Global, lent: Lent, web: Web) -> Result<Rounded, NoMemory>
-    requires held { IsHeld (held_again lent web) }
-    requires ordered { IsOrderedHeld (record { net = held_again lent web; counts = lent.counts.items }) }
+    requires held { IsNetView (held_again lent web) }
+    requires ordered { IsOrderedNetView (record { net = held_again lent web; counts = lent.counts.items }) }
     ensures { IfOk result (λ rounded. IsHeldAgain lent web rounded.net × (rounded.done.items ≡ web.done.items)) }
 {
     let Lent {

@@ -4,21 +4,21 @@ ghost use Rattle.std.specs.Prelude.{◌≡◌, ◌≢◌, ◌≤◌, ◌<◌, �
 ghost use Rattle.snap_core.specs.Arrays.{zero_arrays};
 ghost use Rattle.snap_core.specs.Listing.{IsListing};
 ghost use Rattle.snap_core.specs.declared.program.Program.{Program};
-ghost use Rattle.snap_topo.specs.declared.topology.Topology.{Topology};
+ghost use Rattle.snap_topology.specs.declared.topology.Topology.{Topology};
 ghost use Rattle.snap_rows.specs.Entries.{port_at, ranks};
 ghost use Rattle.snap_rows.specs.Form.{array_count, comps};
-ghost use Rattle.snap_rows.specs.Network.{Inject, Step, whole};
+ghost use Rattle.snap_rows.specs.Network.{Inject, Step, global_store};
 ghost use Rattle.snap_net.specs.declared.net.InjectFault.{InjectFault};
 ghost use Rattle.snap_net.specs.declared.net.StepFault.{StepFault};
 ghost use Rattle.snap_net.specs.Parts.{held_of};
-ghost use Rattle.snap_net.specs.Shown.{HasFrame, IsHeld};
-ghost use Rattle.snap_gen.specs.Faithful.{Faithful};
+ghost use Rattle.snap_net.specs.Shown.{HasFrame, IsNetView};
+ghost use Rattle.snap_faithful.specs.Faithful.{Faithful};
 ghost use Rattle.snap_order.specs.Laws.{KeepsOrder};
 ghost use Rattle.snap_order.specs.Ordered.{Ordered, begin};
-ghost use Rattle.snap_order.specs.Shown.{IsDoneInTurn, IsOrderedHeld, NoTurn, SameInTurn, ShowsInTurn, TellsFrame, TellsTurn};
+ghost use Rattle.snap_order.specs.Shown.{SimulatesInOrder, IsOrderedNetView, NoTurn, SameInOrder, RepresentsInOrder, TellsFrame, TellsTurn};
 
-use crate::counts::{InTurn, count, first_rank, handled, rank_behind};
-use crate::turned::Turned;
+use crate::counts::{InOrder, count, first_rank, handled, rank_behind};
+use crate::turned::OrderedHappened;
 use snap_core::NoMemory;
 use snap_core::packet::Packet;
 use snap_core::place::Entry;
@@ -39,22 +39,22 @@ pub struct OrderedNet {
 }
 
 impl Model for OrderedNet {
-    ghost use Rattle.snap_order.specs.Shown.{OrderedHeld, IsOrderedHeld};
+    ghost use Rattle.snap_order.specs.Shown.{OrderedNetView, IsOrderedNetView};
 
-    ghost Value = { OrderedHeld };
+    ghost Value = { OrderedNetView };
 
     ghost view = { λ a. record { net = a.net; counts = a.counts.items } };
 
-    ghost invariant = { λ a. IsOrderedHeld (record { net = a.net; counts = a.counts.items }) };
+    ghost invariant = { λ a. IsOrderedNetView (record { net = a.net; counts = a.counts.items }) };
 }
 
 /// An ordered network of tables of version 2, with empty stores and nothing in flight. What it does over faithful tables,
-/// whatever the order of events, is the law of `laws::faithful_keeps_order`. Refuses for memory alone.
+/// whatever the order of events, is the law of `laws::faithful_is_serializable`. Refuses for memory alone.
 pub fn open_ordered(alloc: Global, tables: Valid) -> Result<OrderedNet, NoMemory>
     requires version { tables.version ≡ 2 }
     ensures tables { IfOk result (λ net. net.net.tables ≡ tables) }
     ensures injected { IfOk result (λ net. net.net.injected ≡ 0) }
-    ensures begin { IfOk result (λ net. ShowsInTurn net (begin tables zero_arrays)) }
+    ensures begin { IfOk result (λ net. RepresentsInOrder net (begin tables zero_arrays)) }
     ensures order { (p : Program) (topology : Topology) (places : List ℕ) → Faithful p topology places tables → KeepsOrder p topology tables }
 {
     match no_counts(alloc, &tables) {
@@ -87,8 +87,8 @@ pub(crate) struct OrderedParts {
 
 /// Puts an ordered network together.
 pub(crate) fn from_parts(alloc: Global, parts: OrderedParts) -> Result<OrderedNet, NoMemory>
-    requires held { IsHeld (held_of parts.parts) }
-    requires ordered { IsOrderedHeld (record { net = held_of parts.parts; counts = parts.counts.items }) }
+    requires held { IsNetView (held_of parts.parts) }
+    requires ordered { IsOrderedNetView (record { net = held_of parts.parts; counts = parts.counts.items }) }
     ensures net { IfOk result (λ net. net.net ≡ held_of parts.parts) }
     ensures counts { IfOk result (λ net. net.counts ≡ parts.counts.items) }
 {
@@ -119,10 +119,10 @@ impl OrderedNet {
 
     /// The number of copies in flight. Takes no memory.
     pub fn flying(&self) -> usize
-        ensures shown { (s : Ordered) → ShowsInTurn self.now s → result ≡ length s.net.flying }
+        ensures shown { (s : Ordered) → RepresentsInOrder self.now s → result ≡ length s.net.flying }
         ensures held { result ≡ length self.now.net.flying }
-        ensures is_held { IsHeld self.now.net }
-        ensures is_ordered { IsOrderedHeld self.now }
+        ensures is_held { IsNetView self.now.net }
+        ensures is_ordered { IsOrderedNetView self.now }
     {
         self.net.flying()
     }
@@ -130,7 +130,7 @@ impl OrderedNet {
     /// The number of packets that a rank has handled. Takes no memory.
     pub fn handled(&self, rank: u16) -> u64
         requires { rank < ranks self.now.net.tables }
-        ensures { (s : Ordered) → ShowsInTurn self.now s → result ≡ s.handled rank }
+        ensures { (s : Ordered) → RepresentsInOrder self.now s → result ≡ s.handled rank }
     {
         handled(&self.counts, rank)
     }
@@ -138,7 +138,7 @@ impl OrderedNet {
     /// The number at a place of the whole store: each array is taken at its switch. Takes no memory.
     pub fn array(&self, var: u16, index: &[u64]) -> u64
         requires { var < array_count self.now.net.tables }
-        ensures { (s : Ordered) → ShowsInTurn self.now s → result ≡ whole self.now.net.tables s.net (record { var = var; index = index.now }) }
+        ensures { (s : Ordered) → RepresentsInOrder self.now s → result ≡ global_store self.now.net.tables s.net (record { var = var; index = index.now }) }
     {
         self.net.array(var, index)
     }
@@ -146,7 +146,7 @@ impl OrderedNet {
     /// The places of the whole store that don't hold 0, rising by variable and then by index, with their numbers.
     /// Refuses for memory alone.
     pub fn entries(&self) -> Result<Vec<Entry>, NoMemory>
-        ensures { IfOk result (λ entries. (s : Ordered) → ShowsInTurn self.now s → IsListing (whole self.now.net.tables s.net) entries.items) }
+        ensures { IfOk result (λ entries. (s : Ordered) → RepresentsInOrder self.now s → IsListing (global_store self.now.net.tables s.net) entries.items) }
     {
         self.net.entries()
     }
@@ -161,7 +161,7 @@ impl OrderedNet {
         requires packet { length packet ≡ comps self.old.net.tables }
         requires port { slice_index packet 0 ≡ port }
         requires room { self.old.net.injected + 1 < 2 ^ 64 }
-        ensures done { IfOk result (λ number. (number ≡ self.old.net.injected) × IsDoneInTurn self.old (Inject port packet) self.new NoTurn) }
+        ensures done { IfOk result (λ number. (number ≡ self.old.net.injected) × SimulatesInOrder self.old (Inject port packet) self.new NoTurn) }
         ensures tables { self.new.net.tables ≡ self.old.net.tables }
         ensures count { OnOk result (self.new.net.injected ≡ self.old.net.injected + 1) }
         ensures no_port { IfErr result (λ fault. fault ≢ InjectFault.NoMemory → port_at self.old.net.tables port ≡ None) }
@@ -172,26 +172,26 @@ impl OrderedNet {
     }
 
     /// Makes a step of copy k, counted from 0, and tells the frame that crosses a link. A copy before a visit makes it only
-    /// where the rank has handled just the packets before its own, and then those after it that are in turn too: `Waited`
+    /// where the rank has handled just the packets before its own, and then those after it that are in order too: `Waited`
     /// where it can't make the first, `Visited` where it can't make a later one at this switch. A refusal leaves the network
     /// as it was, but for room that its stores took.
     ///
     /// # Errors
     ///
     /// `NoCopy` exactly where there is no such copy; `NoMemory` for want of memory.
-    pub fn step(&mut self, k: usize) -> Result<Turned, StepFault>
-        ensures done { IfOk result (λ turned. IsDoneInTurn self.old (Step k) self.new (TellsFrame turned)) }
+    pub fn step(&mut self, k: usize) -> Result<OrderedHappened, StepFault>
+        ensures done { IfOk result (λ turned. SimulatesInOrder self.old (Step k) self.new (TellsFrame turned)) }
         ensures tables { self.new.net.tables ≡ self.old.net.tables }
         ensures injected { self.new.net.injected ≡ self.old.net.injected }
         ensures copy { IfErr result (λ fault. fault ≡ StepFault.NoCopy → length self.old.net.flying ≤ k) }
         ensures has_copy { length self.old.net.flying ≤ k → IfErr result (λ fault. fault ≡ StepFault.NoCopy) }
-        ensures refused { OnErr result (SameInTurn self.old self.new) }
+        ensures refused { OnErr result (SameInOrder self.old self.new) }
     {
         if k >= self.net.flying() {
             return Err(StepFault::NoCopy);
         }
         let told = self.step_and_count(k, true)?;
-        Ok(Turned::of(told))
+        Ok(OrderedHappened::of(told))
     }
 
     /// The same without the frame: `Stayed` in the place of `Visited`.
@@ -200,12 +200,12 @@ impl OrderedNet {
     ///
     /// As `step`.
     pub fn advance(&mut self, k: usize) -> Result<Moved, StepFault>
-        ensures done { IfOk result (λ moved. IsDoneInTurn self.old (Step k) self.new (TellsTurn moved)) }
+        ensures done { IfOk result (λ moved. SimulatesInOrder self.old (Step k) self.new (TellsTurn moved)) }
         ensures tables { self.new.net.tables ≡ self.old.net.tables }
         ensures injected { self.new.net.injected ≡ self.old.net.injected }
         ensures copy { IfErr result (λ fault. fault ≡ StepFault.NoCopy → length self.old.net.flying ≤ k) }
         ensures has_copy { length self.old.net.flying ≤ k → IfErr result (λ fault. fault ≡ StepFault.NoCopy) }
-        ensures refused { OnErr result (SameInTurn self.old self.new) }
+        ensures refused { OnErr result (SameInOrder self.old self.new) }
     {
         if k >= self.net.flying() {
             return Err(StepFault::NoCopy);
@@ -217,18 +217,18 @@ impl OrderedNet {
     // Makes a step of copy k, and counts its packet at the ranks that it visits. `framed` asks for the frame.
     fn step_and_count(&mut self, k: usize, framed: bool) -> Result<Framed, NoMemory>
         requires { k < length self.old.net.flying }
-        ensures done { IfOk result (λ told. IsDoneInTurn self.old (Step k) self.new (TellsTurn told.moved)) }
+        ensures done { IfOk result (λ told. SimulatesInOrder self.old (Step k) self.new (TellsTurn told.moved)) }
         ensures frame { IfOk result (λ told. IsTrue framed → HasFrame self.new.net.flying k told.moved told.frame.items) }
         ensures tables { self.new.net.tables ≡ self.old.net.tables }
         ensures injected { self.new.net.injected ≡ self.old.net.injected }
-        ensures refused { OnErr result (SameInTurn self.old self.new) }
+        ensures refused { OnErr result (SameInOrder self.old self.new) }
     {
         let _known = self.net.tables();
         let copy = self.net.copy(k);
         let number = copy.number;
         let first = first_rank(self.net.tables(), copy.head);
         let next = number.checked_add(1).ok_or(NoMemory)?;
-        let admit = InTurn {
+        let admit = InOrder {
             counts: &self.counts,
             number,
         };

@@ -1,15 +1,15 @@
-//! A run in turn: the network, what has happened to each packet, and the packets that wait.
+//! A run in order: the network, what has happened to each packet, and the packets that wait.
 
 ghost use Rattle.std.specs.Prelude.{◌≡◌, ◌≤◌, ◌<◌, ◌+◌, ◌^◌, [], ℕ, List, Bool, IfOk, OnOk, length};
 ghost use Rattle.std.specs.List.{All};
 ghost use Rattle.snap_core.specs.Arrays.{zero_arrays};
 ghost use Rattle.snap_rows.specs.declared.tables.Tables.{Tables};
-ghost use Rattle.snap_net.specs.Shown.{IsHeld};
+ghost use Rattle.snap_net.specs.Shown.{IsNetView};
 ghost use Rattle.snap_runs.specs.Playing.{IsReady, packets_in};
-ghost use Rattle.snap_order.specs.Ordered.{Ordered, Turn, begin, happenings};
-ghost use Rattle.snap_order.specs.Playing.{HasInjected, HasStepped, IsPlaying, OwnerIsBelow, Plays, left_in};
+ghost use Rattle.snap_order.specs.Ordered.{Ordered, OrderedHappening, begin, happenings};
+ghost use Rattle.snap_order.specs.Playing.{HasInjected, HasStepped, IsPlaying, NumberIsBelow, Plays, left_in};
 ghost use Rattle.snap_order.specs.Rounding.{AreThere, HasRounded, NoteTurns, width};
-ghost use Rattle.snap_order.specs.Shown.{IsOrderedHeld};
+ghost use Rattle.snap_order.specs.Shown.{IsOrderedNetView};
 ghost use Rattle.snap_order.specs.Reports.{IsRunReport};
 
 use crate::gate::Gate;
@@ -30,7 +30,7 @@ use std::thread::Threads;
 
 /// An ordered network in a run, a tally of each packet that was injected, and the packets that wait, the next one last.
 #[derive(Drop)]
-pub(crate) struct Play {
+pub(crate) struct OrderedPlay {
     alloc: Global,
     net: OrderedNet,
     hops: bool,
@@ -38,14 +38,14 @@ pub(crate) struct Play {
     waiting: Vec<Ready>,
 }
 
-impl Play {
+impl OrderedPlay {
     /// Before the first event.
     pub(crate) fn new(
         alloc: Global,
         tables: Valid,
         hops: bool,
         packets: Vec<Ready>,
-    ) -> Result<Play, NoMemory>
+    ) -> Result<OrderedPlay, NoMemory>
         requires version { tables.version ≡ 2 }
         requires ready { All (IsReady tables) packets.items }
         ensures plays { IfOk result (Plays tables hops (begin tables zero_arrays) []) }
@@ -54,7 +54,7 @@ impl Play {
     {
         let net = open_ordered(alloc, tables)?;
         let waiting = reversed(packets);
-        Ok(Play {
+        Ok(OrderedPlay {
             alloc,
             net,
             hops,
@@ -73,8 +73,8 @@ impl Play {
     /// The number of copies in flight. Takes no memory.
     pub(crate) fn flying(&self) -> usize
         ensures count { result ≡ length self.now.net.net.flying }
-        ensures held { IsHeld self.now.net.net }
-        ensures ordered { IsOrderedHeld self.now.net }
+        ensures held { IsNetView self.now.net.net }
+        ensures ordered { IsOrderedNetView self.now.net }
     {
         self.net.flying()
     }
@@ -133,13 +133,13 @@ impl Play {
         number: u64,
         workers: u16,
         gate: &G,
-    ) -> Result<Play, NoMemory>
+    ) -> Result<OrderedPlay, NoMemory>
         requires playing { IsPlaying self }
         requires workers { (1 ≤ workers) × (workers ≤ 64) }
         ensures rounded { IfOk result (HasRounded self) }
         ensures count { IfOk result (λ new. new.net.net.injected ≡ self.net.net.injected) }
     {
-        let Play {
+        let OrderedPlay {
             alloc,
             net,
             hops,
@@ -151,7 +151,7 @@ impl Play {
         let rounded = round(rt, net, number, workers, gate)?;
         let Rounded { net, done } = rounded;
         match note_turns(&mut tallies, hops, net.network(), done) {
-            Ok(()) => Ok(Play {
+            Ok(()) => Ok(OrderedPlay {
                 alloc,
                 net,
                 hops,
@@ -169,7 +169,7 @@ impl Play {
     pub(crate) fn report(&mut self) -> Result<Vec<u8>, NoMemory>
         requires playing { IsPlaying self.old }
         requires few { self.old.net.net.injected ≤ 67108864 }
-        ensures { IfOk result (λ text. (t : Tables) (hops : Bool) (s : Ordered) (us : List Turn) → Plays t hops s us self.old → IsRunReport t hops s.net.injected s.net (happenings us) text.items) }
+        ensures { IfOk result (λ text. (t : Tables) (hops : Bool) (s : Ordered) (us : List OrderedHappening) → Plays t hops s us self.old → IsRunReport t hops s.net.injected s.net (happenings us) text.items) }
     {
         let tallies = std::mem::replace(&mut self.tallies, Vec::new(self.alloc));
         let mut out = Vec::new(self.alloc);
@@ -186,7 +186,7 @@ fn note_turns(
     net: &Net,
     done: Vec<Moved>,
 ) -> Result<(), NoMemory>
-    requires below { All (OwnerIsBelow (length tallies.old.items)) done.items }
+    requires below { All (NumberIsBelow (length tallies.old.items)) done.items }
     requires there { AreThere 0 net.now.flying done.items }
     ensures { OnOk result (NoteTurns hops net.now.tables.switches net.now.flying 0 done.items tallies.old.items tallies.new.items) }
 {

@@ -6,7 +6,7 @@ ghost use Rattle.snap_order.specs.Rounding.{IsRoundDone};
 
 use crate::gate::Gate;
 use crate::job::pass_all;
-use crate::lent::{lend, settle, work_out};
+use crate::lent::{lend, reassemble, work_out};
 use crate::net::OrderedNet;
 use snap_core::NoMemory;
 use snap_net::happened::Moved;
@@ -95,7 +95,7 @@ fn share_out<R: Threads + Sync, G: Gate>(
         Ok(switches) => {
             let lent = lend(alloc, net, workers)?;
             let worked = work_out(rt, alloc, lent, number, gate)?;
-            settle(alloc, worked, workers, &switches)
+            reassemble(alloc, worked, workers, &switches)
         }
         Err(fault) => {
             drop(net);

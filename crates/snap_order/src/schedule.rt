@@ -1,4 +1,4 @@
-//! The run in turn over a packets file, in the order of a schedule.
+//! The run in order over a packets file, in the order of a schedule.
 
 ghost use Rattle.std.specs.Prelude.{◌≡◌, ◌≤◌, ◌<◌, ◌+◌, ◌^◌, [], ℕ, Bool, List, length, IfOk, IfSome, IsErrOf, MatchResult, OnOk};
 ghost use Rattle.std.specs.List.{All};
@@ -7,19 +7,19 @@ ghost use Rattle.snap_io.specs.Files.{file_of};
 ghost use Rattle.snap_rows.specs.declared.tables.Tables.{Tables};
 ghost use Rattle.snap_runs.specs.Playing.{IsReady, packets_in};
 ghost use Rattle.snap_runs.specs.Schedules.{lines_of};
-ghost use Rattle.snap_trace.specs.declared.fault.TraceFault.{TraceFault};
+ghost use Rattle.snap_report.specs.declared.fault.TraceFault.{TraceFault};
 ghost use Rattle.snap_order.specs.Obeying.{HasDone, HasRun, IsFresh, PlaysLines, Stops};
 ghost use Rattle.snap_order.specs.Playing.{IsPlaying};
 ghost use Rattle.snap_order.specs.Runs.{IsScheduleReport, WritesSchedule};
 
-use crate::play::Play;
+use crate::play::OrderedPlay;
 use snap_core::NoMemory;
 use snap_io::{Shelf, Sink, read_whole, write_whole};
+use snap_report::switch::MOST_BYTES;
 use snap_rows::valid::Valid;
-use snap_runs::event::{Order, next_line, read_order};
+use snap_runs::event::{Instruction, next_line, read_order};
 use snap_runs::ready::{Ready, read_packets};
 use snap_runs::schedule::{ScheduleFault, refused};
-use snap_trace::switch::MOST_BYTES;
 use std::alloc::Global;
 
 /// Writes the report of the ordered network with these tables, over the packets file and the schedule with these names:
@@ -78,7 +78,7 @@ fn played(
     requires few { length schedule.now ≤ 67108864 }
     ensures { MatchResult result (λ text. IsScheduleReport tables hops (packets_in packets.items) (lines_of schedule.now) text.items) (Stops tables (packets_in packets.items) (lines_of schedule.now)) }
 {
-    let mut play = Play::new(alloc, tables, hops, packets)?;
+    let mut play = OrderedPlay::new(alloc, tables, hops, packets)?;
     run(&mut play, schedule)?;
     let report = play.report()?;
     Ok(report)
@@ -86,7 +86,7 @@ fn played(
 
 // Does the lines of a schedule, one after another. `Line` names the first that isn't in form or can't be done, or the one
 // behind the last where a packet or a copy is left.
-fn run(play: &mut Play, schedule: &[u8]) -> Result<(), ScheduleFault>
+fn run(play: &mut OrderedPlay, schedule: &[u8]) -> Result<(), ScheduleFault>
     requires fresh { IsFresh play.old }
     requires injected { play.old.net.net.injected ≡ 0 }
     requires few { length schedule.now ≤ 67108864 }
@@ -112,7 +112,7 @@ fn run(play: &mut Play, schedule: &[u8]) -> Result<(), ScheduleFault>
 }
 
 // Does what a line orders. False: it isn't in form, or can't be done.
-fn obey(play: &mut Play, line: &[u8]) -> Result<bool, NoMemory>
+fn obey(play: &mut OrderedPlay, line: &[u8]) -> Result<bool, NoMemory>
     requires playing { IsPlaying play.old }
     requires room { play.old.net.net.injected < 2 ^ 63 }
     ensures done { IfOk result (HasDone line.now play.old play.new) }
@@ -120,8 +120,8 @@ fn obey(play: &mut Play, line: &[u8]) -> Result<bool, NoMemory>
 {
     match read_order(line) {
         None => Ok(false),
-        Some(Order::Skip) => Ok(true),
-        Some(Order::Inject) => play.inject(),
-        Some(Order::Step(place)) => play.step(place),
+        Some(Instruction::Skip) => Ok(true),
+        Some(Instruction::Inject) => play.inject(),
+        Some(Instruction::Step(place)) => play.step(place),
     }
 }

@@ -1,4 +1,4 @@
-//! The plain run in turn over a packets file.
+//! The plain run in order over a packets file.
 
 ghost use Rattle.std.specs.Prelude.{◌≡◌, ◌≤◌, ℕ, IfSome, IsErrOf};
 ghost use Rattle.snap_io.specs.Causes.{NoneFell, Rose};
@@ -6,10 +6,10 @@ ghost use Rattle.snap_io.specs.Files.{file_of};
 ghost use Rattle.snap_order.specs.Runs.{WritesTrace};
 
 use snap_io::{Shelf, Sink};
+use snap_report::TraceFault;
 use snap_rows::valid::Valid;
 use snap_runs::frames::Frames;
 use snap_runs::trace::trace_by;
-use snap_trace::TraceFault;
 use std::alloc::Global;
 
 /// Writes the report of the ordered network with these tables over the packets file with this name: each packet is injected

@@ -1,4 +1,4 @@
-//! The run in turn over a packets file, by rounds that several workers make.
+//! The run in order over a packets file, by rounds that several workers make.
 
 ghost use Rattle.std.specs.Prelude.{◌≡◌, ◌≤◌, ◌+◌, [], ℕ, Bool, List, length, IfOk, IfSome, IsErrOf};
 ghost use Rattle.std.specs.List.{All};
@@ -11,12 +11,12 @@ ghost use Rattle.snap_order.specs.Rounding.{IsPaced, PlaysRounds};
 ghost use Rattle.snap_order.specs.Rounds.{IsRoundReport, WritesRounds};
 
 use crate::gate::Gate;
-use crate::play::Play;
+use crate::play::OrderedPlay;
 use snap_core::NoMemory;
 use snap_io::{Shelf, Sink, write_whole};
+use snap_report::TraceFault;
 use snap_rows::valid::Valid;
 use snap_runs::ready::{Ready, read_packets};
-use snap_trace::TraceFault;
 use std::alloc::Global;
 use std::thread::Threads;
 
@@ -78,7 +78,7 @@ fn worked<R: Threads + Sync, G: Gate>(
     requires few { length packets.items ≤ 1000000 }
     ensures { IfOk result (λ text. IsRoundReport tables hops (packets_in packets.items) text.items) }
 {
-    let play = Play::new(alloc, tables, hops, packets)?;
+    let play = OrderedPlay::new(alloc, tables, hops, packets)?;
     let begun = begin_all(rt, play, workers, gate)?;
     let mut ended = end_all(rt, begun.play, begun.rounds, workers, gate)?;
     ended.report()
@@ -87,14 +87,14 @@ fn worked<R: Threads + Sync, G: Gate>(
 // A run, and how many rounds were made in it.
 #[derive(Drop)]
 struct Begun {
-    play: Play,
+    play: OrderedPlay,
     rounds: u64,
 }
 
 // Injects the packets that wait, with a round after each.
 fn begin_all<R: Threads + Sync, G: Gate>(
     rt: &R,
-    start: Play,
+    start: OrderedPlay,
     workers: u16,
     gate: &G,
 ) -> Result<Begun, NoMemory>
@@ -119,11 +119,11 @@ fn begin_all<R: Threads + Sync, G: Gate>(
 // Makes rounds until nothing is in flight, behind so many.
 fn end_all<R: Threads + Sync, G: Gate>(
     rt: &R,
-    start: Play,
+    start: OrderedPlay,
     behind: u64,
     workers: u16,
     gate: &G,
-) -> Result<Play, NoMemory>
+) -> Result<OrderedPlay, NoMemory>
     requires workers { (1 ≤ workers) × (workers ≤ 64) }
     requires paced { IsPaced start }
     requires none { left_in start ≡ [] }

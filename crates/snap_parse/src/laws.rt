@@ -3,11 +3,11 @@
 ghost use Rattle.snap_parse.specs.Laws.{YieldsAlways, YieldsOnce};
 
 /// Tokens have one tree at most, or are unexpected or too deep at one place, and no two of these.
-pub fn yields_once()
+pub fn parsing_is_deterministic()
     ensures { YieldsOnce }
 {}
 
 /// Tokens without a tree are unexpected, or too deep, at some place.
-pub fn yields_always()
+pub fn parsing_is_total()
     ensures { YieldsAlways }
 {}

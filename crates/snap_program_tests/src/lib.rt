@@ -12,7 +12,7 @@ mod demo;
 #[cfg(test)]
 mod deps;
 #[cfg(test)]
-mod in_turn;
+mod in_order;
 #[cfg(test)]
 mod obs;
 #[cfg(test)]

@@ -8,12 +8,12 @@ use Rattle.snap_rows.specs.declared.tables.RowAt.{RowAt}
 use Rattle.snap_rows.specs.declared.tables.Tables.{Tables}
 use Rattle.snap_rows.specs.declared.tables.Row.{Row}
 use Rattle.snap_rows.specs.declared.tables.Row.TheVariants.{Field, State, Go, Leaf, Stop, Last}
-use Rattle.snap_rows.specs.declared.tables.Stage.{Stage as Turn}
+use Rattle.snap_rows.specs.declared.tables.Stage.{Stage as LeafStage}
 use Rattle.snap_rows.specs.declared.head.Head.{Head}
 use Rattle.snap_rows.specs.declared.head.Head.TheVariants.{Walk, Stage as AtStage, Out, Visit}
 use Rattle.snap_rows.specs.Actions.{Action}
 use Rattle.snap_rows.specs.Entries.{Parts, row_at, port_at, rank_at, ranks, rank_of}
-use Rattle.snap_rows.specs.Form.{IsInForm}
+use Rattle.snap_rows.specs.Form.{IsWellFormed}
 use Rattle.snap_rows.specs.Rules.{IsValid}
 use Rattle.snap_rows.specs.Home.{AtHome, IsVisited, IsVisitAtHome}
 use Rattle.snap_rows.specs.Steps.{IsGoOrLeaf}
@@ -92,30 +92,30 @@ ranked_tests t r Stop e = e
 ranked_tests t r (Last us os) e = e
 
 -- ---- version 1
-stage_able : (t : Tables) (w : ℕ) (k : List ℕ) (n : ℕ) (ss : List Turn) (os : List Parts) → row_at t w n ≡ Some (Leaf ss os) → (fuel i : ℕ) → i < length ss → length ss ≤ i + fuel → (m : Arrays) → IsAble t w k m (AtStage n i)
+stage_able : (t : Tables) (w : ℕ) (k : List ℕ) (n : ℕ) (ss : List LeafStage) (os : List Parts) → row_at t w n ≡ Some (Leaf ss os) → (fuel i : ℕ) → i < length ss → length ss ≤ i + fuel → (m : Arrays) → IsAble t w k m (AtStage n i)
 stage_able t w k n ss os row zero i within enough m = absurd (let h : length ss ≤ i + 0 = enough in omega arith)
 stage_able t w k n ss os row (suc fuel) i within enough m = by (slice_get ss i) refl (stage_able t w k n ss os row fuel)
   where
     Rest : Type 0
     Rest = (j : ℕ) → j < length ss → length ss ≤ j + fuel → (m : Arrays) → IsAble t w k m (AtStage n j)
 
-    done_here : (s : Turn) → slice_get ss i ≡ Some s → s.at ≡ w → Rest → IsAble t w k m (AtStage n i)
+    done_here : (s : LeafStage) → slice_get ss i ≡ Some s → s.at ≡ w → Rest → IsAble t w k m (AtStage n i)
     done_here s is here rest = ⊎_elim
         (λ more. let f = rest (i + 1) more (let h : length ss ≤ i + suc fuel = enough in omega arith) (updates m s.ups k) in (f.0, f.1, goes_on row is here more f.2))
         (λ last. (_, _, completes row is here (omega arith)))
         (cases_lt (i + 1) (length ss))
 
-    by : (o : Option Turn) → slice_get ss i ≡ o → Rest → IsAble t w k m (AtStage n i)
+    by : (o : Option LeafStage) → slice_get ss i ≡ o → Rest → IsAble t w k m (AtStage n i)
     by None e rest = absurd (past ss i within e)
     by (Some s) e rest = ⊎_elim (λ here. done_here s e here rest) (λ away. (_, _, passes_on row e away)) (cases_eq s.at w)
 
-leaf_able : (t : Tables) (w : ℕ) (k : List ℕ) (m : Arrays) (n : ℕ) (ss : List Turn) (os : List Parts) → row_at t w n ≡ Some (Leaf ss os) → IsAble t w k m (Walk n)
+leaf_able : (t : Tables) (w : ℕ) (k : List ℕ) (m : Arrays) (n : ℕ) (ss : List LeafStage) (os : List Parts) → row_at t w n ≡ Some (Leaf ss os) → IsAble t w k m (Walk n)
 leaf_able t w k m n [] os row = (_, _, forks row)
 leaf_able t w k m n (s ∷ ss) os row =
     let f = stage_able t w k n (s ∷ ss) os row (length (s ∷ ss)) 0 (let l = length ss in omega arith) (omega arith) m in
     (f.0, f.1, begins row f.2)
 
-walk_able_one : (t : Tables) → IsValid t → IsInForm t → t.version ≡ 1 → (w : ℕ) (k : List ℕ) (m : Arrays) (n : ℕ) → IsSome (row_at t w n) → IsAble t w k m (Walk n)
+walk_able_one : (t : Tables) → IsValid t → IsWellFormed t → t.version ≡ 1 → (w : ℕ) (k : List ℕ) (m : Arrays) (n : ℕ) → IsSome (row_at t w n) → IsAble t w k m (Walk n)
 walk_able_one t valid form one w k m n some =
     let f = follows_some t valid w k is_test m (λ b e. e) n some in
     let end = by f.0 (row_at t w f.0) refl (end_one t form one w k m n f.0 f.1) in
@@ -139,7 +139,7 @@ record Visited (t : Tables) (w : ℕ) (k : List ℕ) (m : Arrays) (r n : ℕ) : 
   pub row : row_at t w number ≡ Some body
   pub at : IsVisited t (r + 1) body
 
-visited : (t : Tables) → IsValid t → IsInForm t → t.version ≡ 2 → (w : ℕ) (k : List ℕ) (m : Arrays) (r n : ℕ) (b : Row) → row_at t w n ≡ Some b → IsVisited t r b → Visited t w k m r n
+visited : (t : Tables) → IsValid t → IsWellFormed t → t.version ≡ 2 → (w : ℕ) (k : List ℕ) (m : Arrays) (r n : ℕ) (b : Row) → row_at t w n ≡ Some b → IsVisited t r b → Visited t w k m r n
 visited t valid form two w k m r n b row at =
     let f = follows_some t valid w k (is_ranked t r) m (ranked_tests t r) n (ap (λ (o : Option Row). is_some o) row) in
     let end = visit_end t valid form two (nodes t form) w k r m n f.0 b row at f.1 in
@@ -154,7 +154,7 @@ visited t valid form two w k m r n b row at =
       at = end.2;
     }
 
-visit_able : (t : Tables) → IsValid t → IsInForm t → t.version ≡ 2 → (w : ℕ) (k : List ℕ) (fuel r n : ℕ) → ranks t ≤ r + fuel → IsVisitAtHome t r n → (m : Arrays) → IsAble t w k m (Visit r n)
+visit_able : (t : Tables) → IsValid t → IsWellFormed t → t.version ≡ 2 → (w : ℕ) (k : List ℕ) (fuel r n : ℕ) → ranks t ≤ r + fuel → IsVisitAtHome t r n → (m : Arrays) → IsAble t w k m (Visit r n)
 visit_able t valid form two w k zero r n enough home m = absurd (let h : r < ranks t = rank_is_below t r home.owner home.rank in let g : ranks t ≤ r + 0 = enough in omega arith)
 visit_able t valid form two w k (suc fuel) r n enough home m = ⊎_elim (λ here. by here (visit_able t valid form two w k fuel)) (λ away. (_, _, seeks home.rank away)) (cases_eq home.owner w)
   where
@@ -173,7 +173,7 @@ visit_able t valid form two w k (suc fuel) r n enough home m = ⊎_elim (λ here
         (_, _, concludes rank v.visit last (v.row ∙ ap Some l.2)))
         (cases_lt (r + 1) (ranks t))
 
-walk_able_two : (t : Tables) → IsValid t → IsInForm t → t.version ≡ 2 → (w : ℕ) (k : List ℕ) (m : Arrays) (n : ℕ) → IsSome (row_at t w n) → IsAble t w k m (Walk n)
+walk_able_two : (t : Tables) → IsValid t → IsWellFormed t → t.version ≡ 2 → (w : ℕ) (k : List ℕ) (m : Arrays) (n : ℕ) → IsSome (row_at t w n) → IsAble t w k m (Walk n)
 walk_able_two t valid form two w k m n some =
     let f = follows_some t valid w k is_field m field_tests n some in
     let e = way_end t w k is_field m n f.0 f.1 in
@@ -192,7 +192,7 @@ out_able t w k m p some = by (port_at t p) refl some
     by None e some = absurd (false≢true some)
     by (Some x) e some = ⊎_elim (λ here. (_, _, delivers (e ∙ ap Some here))) (λ away. (_, _, carries e away)) (cases_eq x w)
 
-pub able : (t : Tables) → IsValid t → IsInForm t → (w : ℕ) (k : List ℕ) (m : Arrays) (h : Head) → AtHome t w h → IsAble t w k m h
+pub able : (t : Tables) → IsValid t → IsWellFormed t → (w : ℕ) (k : List ℕ) (m : Arrays) (h : Head) → AtHome t w h → IsAble t w k m h
 able t valid form w k m (Walk n) home = ⊎_elim (λ one. walk_able_one t valid form one w k m n home) (λ two. walk_able_two t valid form two w k m n home) form.version
 able t valid form w k m (AtStage n i) home = let h = home.1 in stage_able t w k n h.stages h.outs h.row (length h.stages) i h.more (omega arith) m
 able t valid form w k m (Out p) home = out_able t w k m p home

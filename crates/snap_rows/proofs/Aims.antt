@@ -10,7 +10,7 @@ use Rattle.snap_rows.specs.Actions.{Forward}
 use Rattle.snap_rows.specs.Aims.{aim_of}
 use Rattle.snap_rows.specs.Bound.{hops_within, left, longest, to_switch}
 use Rattle.snap_rows.specs.Entries.{next, ranks}
-use Rattle.snap_rows.specs.Form.{IsInForm, switch_count}
+use Rattle.snap_rows.specs.Form.{IsWellFormed, switch_count}
 use Rattle.snap_rows.specs.Handles.{Handles, carries, seeks}
 use Rattle.snap_rows.specs.Home.{AtHome}
 use Rattle.snap_rows.specs.Weight.{most_outs, weight}
@@ -26,7 +26,7 @@ goes_on t (Visit r n) x e w k m away = seeks e away
 goes_on t (Walk n) x e w k m away = absurd (no_aim x e)
 goes_on t (Stage n i) x e w k m away = absurd (no_aim x e)
 
-pub aim_below : (t : Tables) → IsInForm t → (h : Head) (x : ℕ) → aim_of t h ≡ Some x → x < switch_count t
+pub aim_below : (t : Tables) → IsWellFormed t → (h : Head) (x : ℕ) → aim_of t h ≡ Some x → x < switch_count t
 aim_below t form (Out p) x e = port_below t form p x e
 aim_below t form (Visit r n) x e = owner_below t form r x e
 aim_below t form (Walk n) x e = absurd (no_aim x e)

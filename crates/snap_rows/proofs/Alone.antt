@@ -1,4 +1,4 @@
--- Where chains stand, and when they are lone.
+-- Where chains stand, and when they are single-owner.
 use Rattle.std.proofs.Common.{◌≡◌, ◌≢◌, ℕ, zero, suc, ◌<◌, Bool, true, false, List, [], ◌∷◌, map, length, Some, refl, sym, ap, subst, ◌∙◌, arith, inl, inr, ⊎_elim, ◌⊎◌}
 use Rattle.std.specs.Prelude.{◌==◌, if◌then◌else◌, slice_index_or, Contains}
 use Rattle.std.proofs.lemmas.Bool.{eqb-true, eq-eqb, false≢true}
@@ -7,10 +7,10 @@ use Rattle.snap_rows.specs.declared.rules.alone.Standing.{Standing}
 use Rattle.snap_rows.specs.declared.rules.alone.Standing.TheVariants.{Nowhere, At, Apart}
 use Rattle.snap_rows.specs.declared.tables.Tables.{Tables}
 use Rattle.snap_rows.specs.declared.tables.Row.TheVariants.{Field, State, Leaf}
-use Rattle.snap_rows.specs.declared.tables.Stage.{Stage as Turn}
+use Rattle.snap_rows.specs.declared.tables.Stage.{Stage as LeafStage}
 use Rattle.snap_rows.specs.Entries.{Parts, node_of, owner_of, var_of}
 use Rattle.snap_rows.specs.Form.{Alternate}
-use Rattle.snap_rows.specs.Lone.{Chain, field, state, leaf, IsLoneFrom}
+use Rattle.snap_rows.specs.SingleOwner.{Chain, field, state, leaf, IsSingleOwnerFrom}
 use Rattle.snap_rows.specs.Standing.{StandsAt, AreSo, beside, both, of_stages}
 use Rattle.std.proofs.lemmas.Option.{same_Some}
 use Rattle.snap_core.proofs.Members.{Contains-here, Contains-later}
@@ -77,11 +77,11 @@ from_state t n w y z test ws node own (field {y = y'} {z = z'} {test = test'} no
 from_state t n w y z test ws node own (leaf {ss = ss} {os = os} node') =
     let e : Some (Leaf ss os) ≡ Some (State test y z) = sym node' ∙ node in absurd (cc)
 
-pub from_leaf : (t : Tables) (n : ℕ) (ss : List Turn) (os : List Parts) (ws : List ℕ) → node_of t n ≡ Some (Leaf ss os) → Chain t n ws → ws ≡ map (λ (s : Turn). s.at) ss
+pub from_leaf : (t : Tables) (n : ℕ) (ss : List LeafStage) (os : List Parts) (ws : List ℕ) → node_of t n ≡ Some (Leaf ss os) → Chain t n ws → ws ≡ map (λ (s : LeafStage). s.at) ss
 from_leaf t n ss os ws node (leaf {ss = ss'} {os = os'} node') =
     let same : Leaf ss' os' ≡ Leaf ss os = same_Some _ _ (sym node' ∙ node) in
     let stages : ss' ≡ ss = cc in
-    ap (map (λ (s : Turn). s.at)) stages
+    ap (map (λ (s : LeafStage). s.at)) stages
 from_leaf t n ss os ws node (field {y = y'} {z = z'} {test = test'} node' way c) =
     let e : Some (Field test' y' z') ≡ Some (Leaf ss os) = sym node' ∙ node in absurd (cc)
 from_leaf t n ss os ws node (state {y = y'} {z = z'} {test = test'} node' own way c) =
@@ -114,14 +114,14 @@ state_so t n w y z test a b node own us chain p q =
         (λ p. (w ∷ p.0, state node own (inr refl) p.1, Contains-later v w p.0 p.2))
         s
 
-pub leaf_so : (t : Tables) (n : ℕ) (ss : List Turn) (os : List Parts) → node_of t n ≡ Some (Leaf ss os) → Alternate ss → AreSo (StandsAt t n) (of_stages ss)
+pub leaf_so : (t : Tables) (n : ℕ) (ss : List LeafStage) (os : List Parts) → node_of t n ≡ Some (Leaf ss os) → Alternate ss → AreSo (StandsAt t n) (of_stages ss)
 leaf_so t n [] os node turns = λ w s. let h = subst (λ ws. Contains ws w) (from_leaf t n [] os s.0 node s.1) s.2 in absurd (let below : h.0 < 0 = h.1 in omega arith)
 leaf_so t n (s ∷ []) os node turns = (
   (s.at ∷ [], leaf node, Contains-here s.at []),
   λ v p. ⊎_elim (λ e. e) (λ h. absurd (let below : h.0 < 0 = h.1 in omega arith)) (Contains-cases v s.at [] (subst (λ ws. Contains ws v) (from_leaf t n (s ∷ []) os p.0 node p.1) p.2)),
 )
 leaf_so t n (s ∷ s' ∷ ss) os node turns =
-    let ws = map (λ (s : Turn). s.at) ss in (
+    let ws = map (λ (s : LeafStage). s.at) ss in (
       s'.at,
       s.at,
       turns.0,
@@ -129,31 +129,31 @@ leaf_so t n (s ∷ s' ∷ ss) os node turns =
       (s.at ∷ s'.at ∷ ws, leaf node, Contains-here s.at (s'.at ∷ ws)),
     )
 
--- ---- lone chains
-pub lone_from_so : (t : Tables) (n : ℕ) (s : Standing) → s ≢ Apart → AreSo (StandsAt t n) s → IsLoneFrom t n
-lone_from_so t n Nowhere other none = λ ws c v w hv hw. absurd (none v (ws, c, hv))
-lone_from_so t n (At u) other one = λ ws c v w hv hw. one.1 v (ws, c, hv) ∙ sym (one.1 w (ws, c, hw))
-lone_from_so t n Apart other two = absurd (other refl)
+-- ---- single-owner chains
+pub single_owner_from_so : (t : Tables) (n : ℕ) (s : Standing) → s ≢ Apart → AreSo (StandsAt t n) s → IsSingleOwnerFrom t n
+single_owner_from_so t n Nowhere other none = λ ws c v w hv hw. absurd (none v (ws, c, hv))
+single_owner_from_so t n (At u) other one = λ ws c v w hv hw. one.1 v (ws, c, hv) ∙ sym (one.1 w (ws, c, hw))
+single_owner_from_so t n Apart other two = absurd (other refl)
 
-pub field_lone : (t : Tables) (n y z : ℕ) (test : Test) → node_of t n ≡ Some (Field test y z) → IsLoneFrom t y → IsLoneFrom t z → IsLoneFrom t n
-field_lone t n y z test node ly lz = λ ws c. ⊎_elim (λ c'. ly ws c') (λ c'. lz ws c') (from_field t n y z test ws node c)
+pub field_single_owner : (t : Tables) (n y z : ℕ) (test : Test) → node_of t n ≡ Some (Field test y z) → IsSingleOwnerFrom t y → IsSingleOwnerFrom t z → IsSingleOwnerFrom t n
+field_single_owner t n y z test node ly lz = λ ws c. ⊎_elim (λ c'. ly ws c') (λ c'. lz ws c') (from_field t n y z test ws node c)
 
 -- each chain comes to the switch w
 abbrev pub Share : Tables → ℕ → ℕ → Type 0
 Share t n w = (ws : List ℕ) → Chain t n ws → Contains ws w
 
-pub not_apart : (t : Tables) (n w : ℕ) → Share t n w → AreSo (StandsAt t n) Apart → IsLoneFrom t n → ⊥
-not_apart t n w share two lone = two.2 (at two.0 two.3 ∙ sym (at two.1 two.4))
+pub not_apart : (t : Tables) (n w : ℕ) → Share t n w → AreSo (StandsAt t n) Apart → IsSingleOwnerFrom t n → ⊥
+not_apart t n w share two single_owner = two.2 (at two.0 two.3 ∙ sym (at two.1 two.4))
   where
     at : (v : ℕ) → StandsAt t n v → v ≡ w
-    at v s = lone s.0 s.1 v w s.2 (share s.0 s.1)
+    at v s = single_owner s.0 s.1 v w s.2 (share s.0 s.1)
 
 pub state_share : (t : Tables) (n w y z : ℕ) (test : Test) → node_of t n ≡ Some (State test y z) → owner_of t (var_of test) ≡ Some w → Share t n w
 state_share t n w y z test node own = λ ws c. let f = from_state t n w y z test ws node own c in subst (λ ws. Contains ws w) (sym f.is) (Contains-here w f.rest)
 
-pub leaf_share : (t : Tables) (n : ℕ) (s : Turn) (ss : List Turn) (os : List Parts) → node_of t n ≡ Some (Leaf (s ∷ ss) os) → Share t n s.at
-leaf_share t n s ss os node = λ ws c. subst (λ ws. Contains ws s.at) (sym (from_leaf t n (s ∷ ss) os ws node c)) (Contains-here s.at (map (λ (s : Turn). s.at) ss))
+pub leaf_share : (t : Tables) (n : ℕ) (s : LeafStage) (ss : List LeafStage) (os : List Parts) → node_of t n ≡ Some (Leaf (s ∷ ss) os) → Share t n s.at
+leaf_share t n s ss os node = λ ws c. subst (λ ws. Contains ws s.at) (sym (from_leaf t n (s ∷ ss) os ws node c)) (Contains-here s.at (map (λ (s : LeafStage). s.at) ss))
 
--- what comes after a state row is lone if all from it is
-pub lone_after : (t : Tables) (n w x y z : ℕ) (test : Test) → node_of t n ≡ Some (State test y z) → owner_of t (var_of test) ≡ Some w → (x ≡ y) ⊎ (x ≡ z) → IsLoneFrom t n → IsLoneFrom t x
-lone_after t n w x y z test node own way lone = λ ws c u v hu hv. lone (w ∷ ws) (state node own way c) u v (Contains-later u w ws hu) (Contains-later v w ws hv)
+-- what comes after a state row is single-owner if all from it is
+pub single_owner_after : (t : Tables) (n w x y z : ℕ) (test : Test) → node_of t n ≡ Some (State test y z) → owner_of t (var_of test) ≡ Some w → (x ≡ y) ⊎ (x ≡ z) → IsSingleOwnerFrom t n → IsSingleOwnerFrom t x
+single_owner_after t n w x y z test node own way single_owner = λ ws c u v hu hv. single_owner (w ∷ ws) (state node own way c) u v (Contains-later u w ws hu) (Contains-later v w ws hv)

@@ -17,13 +17,13 @@ use Rattle.snap_rows.specs.declared.tables.Row.{Row}
 use Rattle.snap_rows.specs.declared.tables.Row.TheVariants.{Field, State, Go, Leaf, Stop, Last}
 use Rattle.snap_rows.specs.declared.tables.Rule.TheVariants.{Loop, Kind, Missing}
 use Rattle.snap_rows.specs.declared.tables.Spot.TheVariants as spot
-use Rattle.snap_rows.specs.declared.tables.Stage.{Stage as Turn}
+use Rattle.snap_rows.specs.declared.tables.Stage.{Stage as LeafStage}
 use Rattle.snap_rows.specs.declared.tables.Tables.{Tables}
 use Rattle.snap_rows.specs.declared.head.Head.{Head}
 use Rattle.snap_rows.specs.declared.head.Head.TheVariants.{Walk, Stage as AtStage, Visit}
 use Rattle.snap_rows.specs.Actions.{Action}
 use Rattle.snap_rows.specs.Entries.{Parts, row_at, node_of, next, rank_at, hop_in, port_numbers}
-use Rattle.snap_rows.specs.Form.{IsInForm, IsTurnInForm, IsHopInForm, IsArrayInForm, switch_count}
+use Rattle.snap_rows.specs.Form.{IsWellFormed, IsLeafStageWellFormed, IsHopWellFormed, IsArrayWellFormed, switch_count}
 use Rattle.snap_rows.specs.Ways.{Way, here, on, Route, end, leg}
 use Rattle.snap_rows.specs.Rules.{IsValid, HopKeeps, IsStateRow, IsFirstSpot}
 use Rattle.snap_rows.specs.Handles.{Handles, asks, goes, forks, begins, passes_on, goes_on, completes, enters, enters_last, seeks, visits, concludes, delivers, carries, is_field, sent, forked}
@@ -40,7 +40,7 @@ hop_keeps : (t : Tables) → IsFirstSpot t Loop None → (h : Hop) → Contains 
 hop_keeps t loops h is = subst (λ o. IfSome o (HopKeeps t Loop)) (slice_get-get_or t.hops is.0 h is.1 ∙ ap Some is.2) (loops (spot.Hop is.0))
 
 -- next hops lead from each switch to each switch
-pub way_to : (t : Tables) → IsFirstSpot t Loop None → IsInForm t → (w x : ℕ) → w < switch_count t → x < switch_count t → (ws : List ℕ) × Way t x w ws
+pub way_to : (t : Tables) → IsFirstSpot t Loop None → IsWellFormed t → (w x : ℕ) → w < switch_count t → x < switch_count t → (ws : List ℕ) × Way t x w ws
 way_to t loops form w x below below' = by (w == x) refl
   where
     by : (b : Bool) → (w == x) ≡ b → (ws : List ℕ) × Way t x w ws
@@ -51,17 +51,17 @@ way_to t loops form w x below below' = by (w == x) refl
         let way = hop_keeps t loops h.0 h.1 in
         (way.0, subst (λ v. Way t v w way.0) h.3 (subst (λ v. Way t h.0.target v way.0) h.2 way.1))
 
-pub route_to : (t : Tables) → IsFirstSpot t Loop None → IsInForm t → (w : ℕ) → w < switch_count t → (ss : List Turn) → All (IsTurnInForm t) ss → (ws : List ℕ) × Route t w (map (λ (s : Turn). s.at) ss) ws
+pub route_to : (t : Tables) → IsFirstSpot t Loop None → IsWellFormed t → (w : ℕ) → w < switch_count t → (ss : List LeafStage) → All (IsLeafStageWellFormed t) ss → (ws : List ℕ) × Route t w (map (λ (s : LeafStage). s.at) ss) ws
 route_to t loops form w below [] all = ([], end)
 route_to t loops form w below (s ∷ ss) all =
-    let first : IsTurnInForm t s = all 0 s (let n = length ss in omega arith) in
-    let rest : All (IsTurnInForm t) ss = λ i d within. all (suc i) d (let h : i < length ss = within in omega arith) in
+    let first : IsLeafStageWellFormed t s = all 0 s (let n = length ss in omega arith) in
+    let rest : All (IsLeafStageWellFormed t) ss = λ i d within. all (suc i) d (let h : i < length ss = within in omega arith) in
     let way = way_to t loops form w s.at below first.at in
     let route = route_to t loops form s.at first.at ss rest in
     (way.0 ++ route.0, leg way.1 route.1)
 
 -- a row of a leaf's number elsewhere is that leaf
-pub same_leaf : (t : Tables) → IsFirstSpot t Kind None → IsInForm t → t.version ≡ 1 → (w x n : ℕ) (ss : List Turn) (os : List Parts) → row_at t w n ≡ Some (Leaf ss os) → IsSome (row_at t x n) → row_at t x n ≡ Some (Leaf ss os)
+pub same_leaf : (t : Tables) → IsFirstSpot t Kind None → IsWellFormed t → t.version ≡ 1 → (w x n : ℕ) (ss : List LeafStage) (os : List Parts) → row_at t w n ≡ Some (Leaf ss os) → IsSome (row_at t x n) → row_at t x n ≡ Some (Leaf ss os)
 same_leaf t kind form one w x n ss os row some = by (row_at t x n) refl some
   where
     node : node_of t n ≡ Some (Leaf ss os)
@@ -133,41 +133,41 @@ pub passed : (t : Tables) (w x : ℕ) (xs ws : List ℕ) (P : ℕ → Type 0) �
 passed t w x xs ws P away route all = passed_from t w x (x ∷ xs) xs ws P refl away route all
 
 -- a stage is at home at the next hop towards it
-stage_passes : (t : Tables) → IsValid t → IsInForm t → t.version ≡ 1 → (w n i : ℕ) (s : Turn) (ss : List Turn) (os : List Parts) → row_at t w n ≡ Some (Leaf ss os) → slice_get ss i ≡ Some s → s.at ≢ w → IsStageAtHome t w n i → IsStageAtHome t (next t w s.at) n i
+stage_passes : (t : Tables) → IsValid t → IsWellFormed t → t.version ≡ 1 → (w n i : ℕ) (s : LeafStage) (ss : List LeafStage) (os : List Parts) → row_at t w n ≡ Some (Leaf ss os) → slice_get ss i ≡ Some s → s.at ≢ w → IsStageAtHome t w n i → IsStageAtHome t (next t w s.at) n i
 stage_passes t valid form one w n i s ss os row is away home =
     let same : Leaf home.stages home.outs ≡ Leaf ss os = same_Some _ _ (sym home.row ∙ row) in
     let stages : home.stages ≡ ss = cc in
-    let route : Route t w (map (λ (s : Turn). s.at) (s ∷ drop (suc i) ss)) home.ws = subst (λ ss'. Route t w (map (λ (s : Turn). s.at) ss') home.ws) (ap (drop i) stages ∙ drop_get ss i s is) home.route in
-    let p = passed t w s.at (map (λ (s : Turn). s.at) (drop (suc i) ss)) home.ws (λ x. IsSome (row_at t x n)) away route home.rows in
+    let route : Route t w (map (λ (s : LeafStage). s.at) (s ∷ drop (suc i) ss)) home.ws = subst (λ ss'. Route t w (map (λ (s : LeafStage). s.at) ss') home.ws) (ap (drop i) stages ∙ drop_get ss i s is) home.route in
+    let p = passed t w s.at (map (λ (s : LeafStage). s.at) (drop (suc i) ss)) home.ws (λ x. IsSome (row_at t x n)) away route home.rows in
     record {
       stages = ss;
       outs = os;
       ws = p.1.0;
       row = same_leaf t (valid Kind) form one w (next t w s.at) n ss os row p.0;
       more = slice_get_within ss i s is;
-      route = subst (λ ss'. Route t (next t w s.at) (map (λ (s : Turn). s.at) ss') p.1.0) (sym (drop_get ss i s is)) p.1.1;
+      route = subst (λ ss'. Route t (next t w s.at) (map (λ (s : LeafStage). s.at) ss') p.1.0) (sym (drop_get ss i s is)) p.1.1;
       rows = p.1.2;
     }
 
 -- the next stage is at home where this one is done
-pub stage_next : (t : Tables) (w n i : ℕ) (s : Turn) (ss : List Turn) (os : List Parts) → row_at t w n ≡ Some (Leaf ss os) → slice_get ss i ≡ Some s → s.at ≡ w → i + 1 < length ss → IsStageAtHome t w n i → IsStageAtHome t w n (i + 1)
+pub stage_next : (t : Tables) (w n i : ℕ) (s : LeafStage) (ss : List LeafStage) (os : List Parts) → row_at t w n ≡ Some (Leaf ss os) → slice_get ss i ≡ Some s → s.at ≡ w → i + 1 < length ss → IsStageAtHome t w n i → IsStageAtHome t w n (i + 1)
 stage_next t w n i s ss os row is stands more home =
     let same : Leaf home.stages home.outs ≡ Leaf ss os = same_Some _ _ (sym home.row ∙ row) in
     let stages : home.stages ≡ ss = cc in
-    let route : Route t w (map (λ (s : Turn). s.at) (drop i ss)) home.ws = subst (λ ss'. Route t w (map (λ (s : Turn). s.at) ss') home.ws) (ap (drop i) stages) home.route in
+    let route : Route t w (map (λ (s : LeafStage). s.at) (drop i ss)) home.ws = subst (λ ss'. Route t w (map (λ (s : LeafStage). s.at) ss') home.ws) (ap (drop i) stages) home.route in
     record {
       stages = ss;
       outs = os;
       ws = home.ws;
       row = row;
       more = more;
-      route = subst (λ j. Route t w (map (λ (s : Turn). s.at) (drop j ss)) home.ws) (sym (add-one i))
-          (arrived t w (map (λ (s : Turn). s.at) (drop i ss)) (map (λ (s : Turn). s.at) (drop (suc i) ss)) home.ws s.at (ap (map (λ (s : Turn). s.at)) (drop_get ss i s is)) stands route);
+      route = subst (λ j. Route t w (map (λ (s : LeafStage). s.at) (drop j ss)) home.ws) (sym (add-one i))
+          (arrived t w (map (λ (s : LeafStage). s.at) (drop i ss)) (map (λ (s : LeafStage). s.at) (drop (suc i) ss)) home.ws s.at (ap (map (λ (s : LeafStage). s.at)) (drop_get ss i s is)) stands route);
       rows = home.rows;
     }
 
 -- the first stage of a leaf is at home
-pub stage_first : (t : Tables) → IsValid t → IsInForm t → t.version ≡ 1 → (w n : ℕ) (s : Turn) (ss : List Turn) (os : List Parts) → w < switch_count t → row_at t w n ≡ Some (Leaf (s ∷ ss) os) → IsStageAtHome t w n 0
+pub stage_first : (t : Tables) → IsValid t → IsWellFormed t → t.version ≡ 1 → (w n : ℕ) (s : LeafStage) (ss : List LeafStage) (os : List Parts) → w < switch_count t → row_at t w n ≡ Some (Leaf (s ∷ ss) os) → IsStageAtHome t w n 0
 stage_first t valid form one w n s ss os below row =
     let route = route_to t (valid Loop) form w below (s ∷ ss) (row_form t form w n (Leaf (s ∷ ss) os) row).2 in
     record {
@@ -181,7 +181,7 @@ stage_first t valid form one w n s ss os below row =
     }
 
 -- a next hop is a switch
-pub next_below : (t : Tables) → IsInForm t → (w x : ℕ) → w < switch_count t → next t w x < switch_count t
+pub next_below : (t : Tables) → IsWellFormed t → (w x : ℕ) → w < switch_count t → next t w x < switch_count t
 next_below t form w x below = hops t.hops form.hops
   where
     by : (h : Hop) (hs : List Hop) (a b : Bool) → h.next < switch_count t → hop_in hs w x < switch_count t → (if a && b then h.next else hop_in hs w x) < switch_count t
@@ -189,9 +189,9 @@ next_below t form w x below = hops t.hops form.hops
     by h hs true false n r = r
     by h hs false b n r = r
 
-    hops : (hs : List Hop) → All (IsHopInForm t) hs → hop_in hs w x < switch_count t
+    hops : (hs : List Hop) → All (IsHopWellFormed t) hs → hop_in hs w x < switch_count t
     hops [] all = below
-    hops (h ∷ hs) all = by h hs (h.from == w) (h.target == x) (all 0 h (let n = length hs in omega arith)).next (hops hs (All-tail (IsHopInForm t) h hs all))
+    hops (h ∷ hs) all = by h hs (h.from == w) (h.target == x) (all 0 h (let n = length hs in omega arith)).next (hops hs (All-tail (IsHopWellFormed t) h hs all))
 
 results_long : (os : List Parts) (s : PacketSet) (k : List ℕ) → AllLong (length k) s → AllLong (length k) (results_from s os k)
 results_long [] s k all = all
@@ -215,12 +215,12 @@ sent_arrive t k (l ∷ ks) all = by (goes_out (port_numbers t) l) refl (sent_arr
 pub fork_arrives : (t : Tables) (k : List ℕ) (os : List Parts) → Arrives t k (forked t os k)
 fork_arrives t k os = sent_arrive t k (listed (results os k)) (All-listed (length k) (results os k) (results_long os no_packets k (AllLong-no_packets (length k))))
 
-pub owner_below : (t : Tables) → IsInForm t → (r w : ℕ) → rank_at t r ≡ Some w → w < switch_count t
+pub owner_below : (t : Tables) → IsWellFormed t → (r w : ℕ) → rank_at t r ≡ Some w → w < switch_count t
 owner_below t form r w e =
     let i = rank_entry t.arrays r w e in
-    subst (λ n. n < switch_count t) i.at (All-get (IsArrayInForm t) t.arrays i.place i.entry form.arrays i.is).at
+    subst (λ n. n < switch_count t) i.at (All-get (IsArrayWellFormed t) t.arrays i.place i.entry form.arrays i.is).at
 
-pub arrives : (t : Tables) → IsValid t → IsInForm t → (w : ℕ) → w < switch_count t → (k : List ℕ) (m : Arrays) (h : Head) (m' : Arrays) (a : Action) → AtHome t w h → Handles t w k m h m' a → Arrives t k a
+pub arrives : (t : Tables) → IsValid t → IsWellFormed t → (w : ℕ) → w < switch_count t → (k : List ℕ) (m : Arrays) (h : Head) (m' : Arrays) (a : Action) → AtHome t w h → Handles t w k m h m' a → Arrives t k a
 arrives t valid form w below k m h m' a home (asks {n = n} {x = x} {b = b} one row to f) =
     let there : IsSome (row_at t w x) = (subst (λ o. IfSome o (λ y. (n < y) × IsSome (row_at t w y))) to (side_goes t valid w n b row m k)).1 in
     arrives t valid form w below k m (Walk x) m' a there f

@@ -15,7 +15,7 @@ use Rattle.snap_rows.specs.Actions.{Action, Forward, Deliver, Fork}
 use Rattle.snap_rows.specs.declared.head.Sent.{Sent}
 use Rattle.snap_core.specs.Ports.{port_in}
 use Rattle.snap_rows.specs.Entries.{Parts, row_at, port_at, next}
-use Rattle.snap_rows.specs.Form.{IsInForm, IsPortInForm, switch_count}
+use Rattle.snap_rows.specs.Form.{IsWellFormed, IsPortWellFormed, switch_count}
 use Rattle.snap_rows.specs.Ways.{Way, here, on}
 use Rattle.snap_rows.specs.Rules.{IsValid, PortKeeps}
 use Rattle.snap_rows.specs.Home.{AtHome}
@@ -43,8 +43,8 @@ port_entry (q ∷ ps) p w e = by (q.port == p) e (port_entry ps p w)
     by true h rest = record { place = 0; entry = q; is = refl; at = same_Some _ _ h }
     by false h rest = let i = rest h in record { place = suc i.place; entry = i.entry; is = i.is; at = i.at }
 
-pub port_below : (t : Tables) → IsInForm t → (p w : ℕ) → port_at t p ≡ Some w → w < switch_count t
-port_below t form p w e = let i = port_entry t.ports p w e in subst (λ n. n < switch_count t) i.at (All-get (IsPortInForm t) t.ports i.place i.entry form.ports i.is).at
+pub port_below : (t : Tables) → IsWellFormed t → (p w : ℕ) → port_at t p ≡ Some w → w < switch_count t
+port_below t form p w e = let i = port_entry t.ports p w e in subst (λ n. n < switch_count t) i.at (All-get (IsPortWellFormed t) t.ports i.place i.entry form.ports i.is).at
 
 pub port_home : (t : Tables) → IsValid t → (p w : ℕ) → port_at t p ≡ Some w → IsSome (row_at t w 0)
 port_home t valid p w e = let i = port_entry t.ports p w e in subst (λ w. IsSome (row_at t w 0)) i.at (subst (λ o. IfSome o (PortKeeps t Missing)) i.is (valid Missing (spot.Port i.place)))
@@ -58,17 +58,17 @@ hops_is t x w ws (on {w = v} {ws = vs} away way) (suc most) le =
     ap (λ b. if b then 0 else suc (hops_within t most (next t v x) x)) (ne_eqb v x away)
     ∙ ap suc (hops_is t x (next t v x) vs way most (let h : suc (length vs) ≤ suc most = le in omega arith))
 
-distance_is : (t : Tables) → IsInForm t → (w x : ℕ) (ws : List ℕ) → w < switch_count t → Way t x w ws → distance t w x ≡ length ws
+distance_is : (t : Tables) → IsWellFormed t → (w x : ℕ) (ws : List ℕ) → w < switch_count t → Way t x w ws → distance t w x ≡ length ws
 distance_is t form w x ws low way = hops_is t x w ws way (switch_count t) (let h : length ws < switch_count t = short t form x w ws low way in omega arith)
 
-pub far_short : (t : Tables) → IsValid t → IsInForm t → (w x : ℕ) → w < switch_count t → x < switch_count t → distance t w x ≤ longest t
+pub far_short : (t : Tables) → IsValid t → IsWellFormed t → (w x : ℕ) → w < switch_count t → x < switch_count t → distance t w x ≤ longest t
 far_short t valid form w x low low' =
     let way = way_to t (valid Loop) form w x low low' in
     let e : distance t w x ≡ length way.0 = distance_is t form w x way.0 low way.1 in
     let h : length way.0 < switch_count t = short t form x w way.0 low way.1 in
     omega arith
 
-nearer_way : (t : Tables) → IsInForm t → (w x : ℕ) (ws : List ℕ) → w < switch_count t → x ≢ w → Way t x w ws → distance t (next t w x) x + 1 ≡ distance t w x
+nearer_way : (t : Tables) → IsWellFormed t → (w x : ℕ) (ws : List ℕ) → w < switch_count t → x ≢ w → Way t x w ws → distance t (next t w x) x + 1 ≡ distance t w x
 nearer_way t form w x ws low away here = absurd (away refl)
 nearer_way t form w x ws low away (on {ws = vs} other way) =
     let e : distance t w x ≡ suc (length vs) = distance_is t form w x (next t w x ∷ vs) low (on other way) in
@@ -76,7 +76,7 @@ nearer_way t form w x ws low away (on {ws = vs} other way) =
     omega arith
 
 -- a next hop is one hop nearer
-pub nearer : (t : Tables) → IsValid t → IsInForm t → (w x : ℕ) → w < switch_count t → x < switch_count t → x ≢ w → distance t (next t w x) x + 1 ≡ distance t w x
+pub nearer : (t : Tables) → IsValid t → IsWellFormed t → (w x : ℕ) → w < switch_count t → x < switch_count t → x ≢ w → distance t (next t w x) x + 1 ≡ distance t w x
 nearer t valid form w x low low' away = let way = way_to t (valid Loop) form w x low low' in nearer_way t form w x way.0 low away way.1
 
 -- ---- what is left after a step: less by one at a forward, and no more at a fork
@@ -91,7 +91,7 @@ wider t w b c (Deliver port) le f = tt
 wider t w b c (Fork copies lost) le f = λ i d within. let h = f i d within in omega arith
 
 -- the way to a port is the longest at most
-pub port_short : (t : Tables) → IsValid t → IsInForm t → (w p : ℕ) → w < switch_count t → IsSome (port_at t p) → to_switch t w (port_at t p) ≤ longest t
+pub port_short : (t : Tables) → IsValid t → IsWellFormed t → (w p : ℕ) → w < switch_count t → IsSome (port_at t p) → to_switch t w (port_at t p) ≤ longest t
 port_short t valid form w p low some = by (port_at t p) refl some
   where
     by : (o : Option ℕ) → port_at t p ≡ o → IsSome o → to_switch t w o ≤ longest t
@@ -99,10 +99,10 @@ port_short t valid form w p low some = by (port_at t p) refl some
     by (Some x) e some = far_short t valid form w x low (port_below t form p x e)
 
 -- a fork where the longest way is left
-pub fork_falls : (t : Tables) → IsValid t → IsInForm t → (w b : ℕ) (os : List Parts) (k : List ℕ) → w < switch_count t → longest t ≤ b → Falls t w b (forked t os k)
+pub fork_falls : (t : Tables) → IsValid t → IsWellFormed t → (w b : ℕ) (os : List Parts) (k : List ℕ) → w < switch_count t → longest t ≤ b → Falls t w b (forked t os k)
 fork_falls t valid form w b os k low enough = All-weaker (IsSent t k) (λ (x : Sent). left t w (Out x.port) ≤ b) (λ x is. let h = port_short t valid form w x.port low is.port in omega arith) _ (fork_arrives t k os)
 
-pub carry_falls : (t : Tables) → IsValid t → IsInForm t → (w p x : ℕ) → w < switch_count t → port_at t p ≡ Some x → x ≢ w → left t (next t w x) (Out p) + 1 ≤ left t w (Out p)
+pub carry_falls : (t : Tables) → IsValid t → IsWellFormed t → (w p x : ℕ) → w < switch_count t → port_at t p ≡ Some x → x ≢ w → left t (next t w x) (Out p) + 1 ≤ left t w (Out p)
 carry_falls t valid form w p x low at away =
     let e : to_switch t w (port_at t p) ≡ distance t w x = ap (to_switch t w) at in
     let f : to_switch t (next t w x) (port_at t p) ≡ distance t (next t w x) x = ap (to_switch t (next t w x)) at in
@@ -129,7 +129,7 @@ moved_bounded t c (Deliver port) is arrives f = λ i d within. absurd (let h : i
 moved_bounded t c (Fork copies lost) is arrives f = All-map (IsBounded t) (λ (x : Sent). record c { head = Out x.port; packet = x.packet; steps = c.steps + 1 }) copies
     (λ i d within. record { at = is.at; home = (arrives i d within).port; most = (let h = f i d within in let g = is.most in omega arith) })
 
-leads_bounded : (t : Tables) → IsValid t → IsInForm t → Measures t → (s s' : Net) (e : Event) (hs : List Happening) → Leads t s e s' hs → All (IsBounded t) s.flying → All (IsBounded t) s'.flying
+leads_bounded : (t : Tables) → IsValid t → IsWellFormed t → Measures t → (s s' : Net) (e : Event) (hs : List Happening) → Leads t s e s' hs → All (IsBounded t) s.flying → All (IsBounded t) s'.flying
 leads_bounded t valid form measures s s' e hs (inject {port = p} {w = w} at first) all =
     All-push (IsBounded t) s.flying _ all (record { at = port_below t form p w at; home = port_home t valid p w at; most = (let h = measures.starts p w at in omega arith) })
 leads_bounded t valid form measures s s' e hs (step {i = i} {c = c} {m = m} {a = a} is handles) all =
@@ -139,5 +139,5 @@ leads_bounded t valid form measures s s' e hs (step {i = i} {c = c} {m = m} {a =
     All-append (IsBounded t) (take i s.flying) (moved c a ++ drop (i + 1) s.flying) (All-take (IsBounded t) i s.flying all)
     (All-append (IsBounded t) (moved c a) (drop (i + 1) s.flying) (moved_bounded t c a b arr f) (All-drop (IsBounded t) (i + 1) s.flying all))
 
-pub bounded : (t : Tables) → IsValid t → IsInForm t → Measures t → (m : Arrays) (es : List Event) (s : Net) (hs : List Happening) → Runs t (start t m) es s hs → All (IsBounded t) s.flying
+pub bounded : (t : Tables) → IsValid t → IsWellFormed t → Measures t → (m : Arrays) (es : List Event) (s : Net) (hs : List Happening) → Runs t (start t m) es s hs → All (IsBounded t) s.flying
 bounded t valid form measures m es s hs run = runs-keep (λ (n : Net). All (IsBounded t) n.flying) run (leads_bounded t valid form measures) (λ i d within. absurd (let h : i < 0 = within in omega arith))

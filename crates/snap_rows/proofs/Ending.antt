@@ -10,14 +10,14 @@ use Rattle.snap_rows.specs.declared.head.Head.TheVariants.{Walk, Out}
 use Rattle.snap_rows.specs.Actions.{Action, Forward, Deliver, Fork}
 use Rattle.snap_rows.specs.declared.head.Sent.{Sent}
 use Rattle.snap_rows.specs.Entries.{port_at, next}
-use Rattle.snap_rows.specs.Form.{IsInForm, switch_count}
+use Rattle.snap_rows.specs.Form.{IsWellFormed, switch_count}
 use Rattle.snap_rows.specs.Rules.{IsValid}
 use Rattle.snap_rows.specs.declared.tables.Rule.TheVariants.{Loop}
 use Rattle.snap_rows.specs.Ways.{Way, here, on}
 use Rattle.snap_rows.specs.Home.{AtHome}
 use Rattle.snap_rows.specs.Steps.{Arrives}
 use Rattle.snap_rows.specs.Handles.{Handles, delivers, carries}
-use Rattle.snap_rows.specs.Network.{Copy, Net, Event, Inject, Step, Happening, inject, step, injected, stepped, moved, happening, RunsCalmly, rests, injects, steps, packets_of, StepsFirst, IsPlainRun, start}
+use Rattle.snap_rows.specs.Network.{Copy, Net, Event, Inject, Step, Happening, inject, step, injected, stepped, moved, happening, RunsSequentially, rests, injects, steps, packets_of, StepsFirst, IsPlainRun, start}
 use Rattle.snap_rows.specs.Bound.{left, most_hops}
 use Rattle.snap_rows.specs.Progress.{CanBeInjected, PlainRunsEnd}
 use Rattle.snap_rows.proofs.Able.{able}
@@ -30,7 +30,7 @@ record Ends (t : Tables) (ks : List (ℕ × List ℕ)) (s : Net) : Type 0 where
   pub events : List Event
   pub last : Net
   pub happened : List Happening
-  pub run : RunsCalmly t s events last happened
+  pub run : RunsSequentially t s events last happened
   pub packets : packets_of events ≡ ks
   pub first : All StepsFirst events
   pub ended : last.flying ≡ []
@@ -72,14 +72,14 @@ way_ends t ks p x w ws (on away way) at c where' head rest then' s is =
     let handles : Handles t c.at c.packet m c.head m a = subst (λ h. Handles t c.at c.packet m h m a) (sym head) (subst (λ v. Handles t v c.packet m (Out p) m a) (sym where') (carries at (λ e. away (sym e)))) in
     step_first t ks s c rest m a is handles (way_ends t ks p x (next t w x) _ way at _ refl refl rest then')
 
-out_ends : (t : Tables) → IsValid t → IsInForm t → (ks : List (ℕ × List ℕ)) (c : Copy) → IsOut t c → (rest : List Copy) → EndsFrom t ks rest → EndsFrom t ks (c ∷ rest)
+out_ends : (t : Tables) → IsValid t → IsWellFormed t → (ks : List (ℕ × List ℕ)) (c : Copy) → IsOut t c → (rest : List Copy) → EndsFrom t ks rest → EndsFrom t ks (c ∷ rest)
 out_ends t valid form ks c out rest then' = by (port_at t out.port) refl out.has
   where
     by : (o : Option ℕ) → port_at t out.port ≡ o → IsSome o → EndsFrom t ks (c ∷ rest)
     by None e some = absurd (false≢true some)
     by (Some x) e some = let way = way_to t (valid Loop) form c.at x out.at (port_below t form out.port x e) in way_ends t ks out.port x c.at way.0 way.1 e c refl out.head rest then'
 
-outs_end : (t : Tables) → IsValid t → IsInForm t → (ks : List (ℕ × List ℕ)) (cs : List Copy) → All (IsOut t) cs → (rest : List Copy) → EndsFrom t ks rest → EndsFrom t ks (cs ++ rest)
+outs_end : (t : Tables) → IsValid t → IsWellFormed t → (ks : List (ℕ × List ℕ)) (cs : List Copy) → All (IsOut t) cs → (rest : List Copy) → EndsFrom t ks rest → EndsFrom t ks (cs ++ rest)
 outs_end t valid form ks [] all rest then' = then'
 outs_end t valid form ks (c ∷ cs) all rest then' = out_ends t valid form ks c (All-head (IsOut t) c cs all) (cs ++ rest) (outs_end t valid form ks cs (All-tail (IsOut t) c cs all) rest then')
 
@@ -89,7 +89,7 @@ record IsNear (t : Tables) (c : Copy) (most : ℕ) : Type 0 where
   pub home : AtHome t c.at c.head
   pub few : left t c.at c.head ≤ most
 
-one_turn : (t : Tables) → IsValid t → IsInForm t → Measures t → (ks : List (ℕ × List ℕ)) (rest : List Copy) → EndsFrom t ks rest → (most : ℕ)
+one_turn : (t : Tables) → IsValid t → IsWellFormed t → Measures t → (ks : List (ℕ × List ℕ)) (rest : List Copy) → EndsFrom t ks rest → (most : ℕ)
     → ((c : Copy) (b : ℕ) → b + 1 ≤ most → IsNear t c b → EndsFrom t ks (c ∷ rest)) → (c : Copy) → IsNear t c most → EndsFrom t ks (c ∷ rest)
 one_turn t valid form measures ks rest then' most later c near s is =
     let m = s.stores c.at in
@@ -105,14 +105,14 @@ one_turn t valid form measures ks rest then' most later c near s is =
         (All-map (IsOut t) (λ (x : Sent). record c { head = Out x.port; packet = x.packet; steps = c.steps + 1 }) copies (λ i d within. record { at = near.at; port = _; head = refl; has = (arr i d within).port }))
         rest then')
 
-copy_ends : (t : Tables) → IsValid t → IsInForm t → Measures t → (ks : List (ℕ × List ℕ)) (rest : List Copy) → EndsFrom t ks rest → (most : ℕ) (c : Copy) → IsNear t c most → EndsFrom t ks (c ∷ rest)
+copy_ends : (t : Tables) → IsValid t → IsWellFormed t → Measures t → (ks : List (ℕ × List ℕ)) (rest : List Copy) → EndsFrom t ks rest → (most : ℕ) (c : Copy) → IsNear t c most → EndsFrom t ks (c ∷ rest)
 copy_ends t valid form measures ks rest then' zero c near = one_turn t valid form measures ks rest then' zero (λ c' b less near'. absurd (let h : b + 1 ≤ 0 = less in omega arith)) c near
 copy_ends t valid form measures ks rest then' (suc most) c near = one_turn t valid form measures ks rest then' (suc most)
     (λ c' b less near'. copy_ends t valid form measures ks rest then' most c' (record { at = near'.at; home = near'.home; few = (let h : b + 1 ≤ suc most = less in let g = near'.few in omega arith) }))
     c near
 
 -- ---- all packets
-plain_ends : (t : Tables) → IsValid t → IsInForm t → Measures t → (ks : List (ℕ × List ℕ)) → All (CanBeInjected t) ks → EndsFrom t ks []
+plain_ends : (t : Tables) → IsValid t → IsWellFormed t → Measures t → (ks : List (ℕ × List ℕ)) → All (CanBeInjected t) ks → EndsFrom t ks []
 plain_ends t valid form measures [] all s is = record { events = []; last = s; happened = []; run = rests; packets = refl; first = All-nil StepsFirst; ended = is }
 plain_ends t valid form measures (p ∷ ks) all s is = by (port_at t p.0) refl can.port (plain_ends t valid form measures ks (All-tail (CanBeInjected t) p ks all))
   where
@@ -135,7 +135,7 @@ plain_ends t valid form measures (p ∷ ks) all s is = by (port_at t p.0) refl c
           ended = r.ended;
         }
 
-plain_run : (t : Tables) → IsValid t → IsInForm t → Measures t → (m : Arrays) (ks : List (ℕ × List ℕ)) → All (CanBeInjected t) ks → (es : List Event) × (s : Net) × (hs : List Happening) × IsPlainRun t m ks es s hs
+plain_run : (t : Tables) → IsValid t → IsWellFormed t → Measures t → (m : Arrays) (ks : List (ℕ × List ℕ)) → All (CanBeInjected t) ks → (es : List Event) × (s : Net) × (hs : List Happening) × IsPlainRun t m ks es s hs
 plain_run t valid form measures m ks all =
     let r = plain_ends t valid form measures ks all (start t m) refl in
     (r.events, r.last, r.happened, record { packets = r.packets; first = r.first; run = r.run; ended = r.ended })

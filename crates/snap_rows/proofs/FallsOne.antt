@@ -12,12 +12,12 @@ use Rattle.snap_rows.specs.declared.tables.Tables.{Tables}
 use Rattle.snap_rows.specs.declared.tables.Rule.TheVariants.{Kind, Owner}
 use Rattle.snap_rows.specs.declared.tables.Row.{Row}
 use Rattle.snap_rows.specs.declared.tables.Row.TheVariants.{Field, State, Go, Leaf, Stop, Last}
-use Rattle.snap_rows.specs.declared.tables.Stage.{Stage as Turn}
+use Rattle.snap_rows.specs.declared.tables.Stage.{Stage as LeafStage}
 use Rattle.snap_rows.specs.declared.head.Head.{Head}
 use Rattle.snap_rows.specs.declared.head.Head.TheVariants.{Walk, Stage as AtStage}
 use Rattle.snap_rows.specs.Actions.{Action}
 use Rattle.snap_rows.specs.Entries.{Parts, row_at, node_of, owner_of, port_at, next, ranks, var_of}
-use Rattle.snap_rows.specs.Form.{IsInForm, switch_count}
+use Rattle.snap_rows.specs.Form.{IsWellFormed, switch_count}
 use Rattle.snap_rows.specs.Rules.{IsValid, IsStateRow}
 use Rattle.snap_rows.specs.Home.{AtHome}
 use Rattle.snap_rows.specs.Handles.{Handles, asks, goes, forks, begins, passes_on, goes_on, completes, enters, enters_last, seeks, visits, concludes, delivers, carries}
@@ -131,7 +131,7 @@ record Decision (t : Tables) (w n : ℕ) (o : Option Row) : Type 0 where
   pub short : to_decision t w o ≤ longest t
   pub some : (to_decision t w o ≡ 0) ⊎ ((x : ℕ) × Decided t n x)
 
-decision : (t : Tables) → IsValid t → IsInForm t → t.version ≡ 1 → (w n : ℕ) → w < switch_count t → IsSome (row_at t w n) → Decision t w n (row_at t w n)
+decision : (t : Tables) → IsValid t → IsWellFormed t → t.version ≡ 1 → (w n : ℕ) → w < switch_count t → IsSome (row_at t w n) → Decision t w n (row_at t w n)
 decision t valid form one w n low some = by (row_at t w n) refl some
   where
     here : (o : Option Row) → to_decision t w o ≡ 0 → Decision t w n o
@@ -162,7 +162,7 @@ stages_in [] i r is = absurd (false≢true (ap (λ (o : Option RowAt). is_some o
 stages_in (x ∷ xs) zero r is = let e : stages_of x.row ≡ stages_of r.row = ap (λ (r : RowAt). stages_of r.row) (same_Some _ _ is) in omega arith
 stages_in (x ∷ xs) (suc i) r is = let h : stages_of r.row ≤ most_stages_in xs = stages_in xs i r is in omega arith
 
-few_stages : (t : Tables) (w n : ℕ) (ss : List Turn) (os : List Parts) → row_at t w n ≡ Some (Leaf ss os) → length ss ≤ most_stages t
+few_stages : (t : Tables) (w n : ℕ) (ss : List LeafStage) (os : List Parts) → row_at t w n ≡ Some (Leaf ss os) → length ss ≤ most_stages t
 few_stages t w n ss os row =
     let i = entry_of t.rows w n (Leaf ss os) row in
     subst (λ (b : Row). stages_of b ≤ most_stages t) i.body (stages_in t.rows i.place i.entry i.is)
@@ -193,12 +193,12 @@ begin_bound z l d d' s c short few =
 walk_left : (t : Tables) → t.version ≡ 1 → (w n : ℕ) → left t w (Walk n) ≡ to_decision t w (row_at t w n) + (states_above t n + most_stages t + 1) * longest t
 walk_left t one w n = ap (λ b. if b then to_decision t w (row_at t w n) + (states_above t n + most_stages t + 1) * longest t else (ranks t + 1) * longest t) (eq-eqb t.version 1 one)
 
-stage_left : (t : Tables) (w n i : ℕ) (s : Turn) (ss : List Turn) (os : List Parts) → row_at t w n ≡ Some (Leaf ss os) → slice_get ss i ≡ Some s → left t w (AtStage n i) ≡ distance t w s.at + (length ss - i) * longest t
+stage_left : (t : Tables) (w n i : ℕ) (s : LeafStage) (ss : List LeafStage) (os : List Parts) → row_at t w n ≡ Some (Leaf ss os) → slice_get ss i ≡ Some s → left t w (AtStage n i) ≡ distance t w s.at + (length ss - i) * longest t
 stage_left t w n i s ss os row is =
-    ap (λ o. from_stage t w o i) row ∙ ap (λ (o : Option Turn). to_switch t w (option_map (λ (s : Turn). s.at) o) + (length ss - i) * longest t) is
+    ap (λ o. from_stage t w o i) row ∙ ap (λ (o : Option LeafStage). to_switch t w (option_map (λ (s : LeafStage). s.at) o) + (length ss - i) * longest t) is
 
 -- ---- steps
-falls : (t : Tables) → IsValid t → IsInForm t → t.version ≡ 1 → (w : ℕ) → w < switch_count t → (k : List ℕ) (m : Arrays) (h : Head) (m' : Arrays) (a : Action) → AtHome t w h → Handles t w k m h m' a → Falls t w (left t w h) a
+falls : (t : Tables) → IsValid t → IsWellFormed t → t.version ≡ 1 → (w : ℕ) → w < switch_count t → (k : List ℕ) (m : Arrays) (h : Head) (m' : Arrays) (a : Action) → AtHome t w h → Handles t w k m h m' a → Falls t w (left t w h) a
 falls t valid form one w low k m h m' a home (asks {n = n} {x = x} {b = body} one' row to f) =
     let side = subst (λ o. IfSome o (λ y. (n < y) × IsSome (row_at t w y))) to (side_goes t valid w n body row m k) in
     let d = decision t valid form one w x low side.1 in
@@ -258,7 +258,7 @@ most_one t one =
     let e : most_hops t ≡ (states t + most_stages t + 1) * longest t = ap (λ b. (if b then states t + most_stages t + 1 else ranks t + 1) * longest t) (eq-eqb t.version 1 one) in
     omega arith
 
-pub measures : (t : Tables) → IsValid t → IsInForm t → t.version ≡ 1 → Measures t
+pub measures : (t : Tables) → IsValid t → IsWellFormed t → t.version ≡ 1 → Measures t
 measures t valid form one = record { starts = starts; falls = falls t valid form one }
   where
     starts : (p w : ℕ) → port_at t p ≡ Some w → left t w (Walk 0) ≤ most_hops t

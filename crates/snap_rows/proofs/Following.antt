@@ -16,7 +16,7 @@ use Rattle.snap_rows.specs.declared.tables.Spot.TheVariants as spot
 use Rattle.snap_rows.specs.declared.tables.Tables.{Tables}
 use Rattle.snap_rows.specs.Entries.{row_at}
 use Rattle.snap_rows.specs.Following.{IsMarked, IsNextMarked, ArePortsMarked, IsFollowed, Grows, AreMarked}
-use Rattle.snap_rows.specs.Form.{IsInForm, IsRowAtInForm}
+use Rattle.snap_rows.specs.Form.{IsWellFormed, IsRowAtWellFormed}
 use Rattle.snap_rows.specs.Leads.{IsNumberAfter, LeadsOver, LeadsNext, AreLedNext, HaveRows, HoldsNext}
 use Rattle.snap_rows.specs.Reach.{falses}
 use Rattle.snap_rows.specs.Rules.{IsFirstSpot, PortKeeps, RowKeeps}
@@ -110,7 +110,7 @@ pub next_marked : (t : Tables) (marks : List Bool) (r : RowAt) (over : List ℕ)
     → IsNextMarked t marks r
 next_marked t marks r over are own all = (own, λ y o. let c = (are y).0 o in subst (λ v. IsMarked t marks v r.number) c.2 (all c.0 y c.1))
 
-pub leads_reached : (t : Tables) → IsInForm t → (r : RowAt) (i : ℕ) → slice_get t.rows i ≡ Some r → Reached t r.at r.number → (x k : ℕ) → LeadsTo t r.at r.number r.row x k → Reached t x k
+pub leads_reached : (t : Tables) → IsWellFormed t → (r : RowAt) (i : ℕ) → slice_get t.rows i ≡ Some r → Reached t r.at r.number → (x k : ℕ) → LeadsTo t r.at r.number r.row x k → Reached t x k
 leads_reached t form r i is reached x k l = lead reached (row_here t.rows form.rows_rise r.at r.number i r is refl refl) l
 
 -- ---- ports
@@ -143,8 +143,8 @@ OnOk-both (Ok x) f a b = f a b
 OnOk-both (Err e) f a b = tt
 
 -- what an entry leads to at once it leads to
-pub entry_over : (t : Tables) → IsFirstSpot t Loop None → IsInForm t → (r : RowAt) → Contains t.rows r → (x : ℕ) → LeadsNext t r.at r.row x → LeadsOver t r.at r.row x
-entry_over t loops form r e x l = let fits = All-get (IsRowAtInForm t) t.rows e.0 r form.rows (contained t.rows r e) in next_is_over t loops form r.at fits.at r.row fits.row x l
+pub entry_over : (t : Tables) → IsFirstSpot t Loop None → IsWellFormed t → (r : RowAt) → Contains t.rows r → (x : ℕ) → LeadsNext t r.at r.row x → LeadsOver t r.at r.row x
+entry_over t loops form r e x l = let fits = All-get (IsRowAtWellFormed t) t.rows e.0 r form.rows (contained t.rows r e) in next_is_over t loops form r.at fits.at r.row fits.row x l
 
 -- ---- what is left
 pub swapped : (t : Tables) (marks : List Bool) (xs ys : List ℕ) → IsFollowed t marks (xs ++ ys) → IsFollowed t marks (ys ++ xs)
@@ -170,11 +170,11 @@ left_place t marks left i long f c =
     (omega arith, m)
 
 -- ---- at the end
-marked_row : (t : Tables) → IsInForm t → (marks : List Bool) (w n : ℕ) (m : IsMarked t marks w n) → row_at t w n ≡ Some m.1.0.row
+marked_row : (t : Tables) → IsWellFormed t → (marks : List Bool) (w n : ℕ) (m : IsMarked t marks w n) → row_at t w n ≡ Some m.1.0.row
 marked_row t form marks w n m = let place = m.1 in row_here t.rows form.rows_rise w n m.0 place.0 place.1 place.2 place.3
 
 -- where nothing is left, what a marked row leads to at once is marked
-none_left : (t : Tables) → IsInForm t → (marks : List Bool) → IsFollowed t marks [] → (w n : ℕ) (b : Row) → row_at t w n ≡ Some b → IsMarked t marks w n → HoldsNext (IsMarked t marks) t w n b
+none_left : (t : Tables) → IsWellFormed t → (marks : List Bool) → IsFollowed t marks [] → (w n : ℕ) (b : Row) → row_at t w n ≡ Some b → IsMarked t marks w n → HoldsNext (IsMarked t marks) t w n b
 none_left t form marks f w n b row m =
     let r = m.1.0 in
     let P = IsMarked t marks in
@@ -184,12 +184,12 @@ none_left t form marks f w n b row m =
     (λ leads. subst (λ c. HoldsNext P t w n c) body (subst (λ j. HoldsNext P t w j r.row) m.1.3 (subst (λ v. HoldsNext P t v r.number r.row) m.1.2 leads)))
     (f.closed m.0 r m.1.1 m.2)
 
-all_marked : (t : Tables) → IsInForm t → IsFirstSpot t Kind None → (marks : List Bool) → IsFollowed t marks [] → ArePortsMarked t marks → (w n : ℕ) → Reached t w n → IsMarked t marks w n
+all_marked : (t : Tables) → IsWellFormed t → IsFirstSpot t Kind None → (marks : List Bool) → IsFollowed t marks [] → ArePortsMarked t marks → (w n : ℕ) → Reached t w n → IsMarked t marks w n
 all_marked t form kind marks f ports w n (port {p = p} is) = ports (record { port = p; at = w }) is
 all_marked t form kind marks f ports x k (lead {w = w} {n = n} {b = b} from row l) =
     leads_hold t form kind (IsMarked t marks) (λ v j m. ap (λ (o : Option Row). is_some o) (marked_row t form marks v j m)) (none_left t form marks f) w n b row (all_marked t form kind marks f ports w n from) x k l
 
-pub are_marked : (t : Tables) → IsInForm t → IsFirstSpot t Kind None → (marks : List Bool) → IsFollowed t marks [] → ArePortsMarked t marks → AreMarked t marks
+pub are_marked : (t : Tables) → IsWellFormed t → IsFirstSpot t Kind None → (marks : List Bool) → IsFollowed t marks [] → ArePortsMarked t marks → AreMarked t marks
 are_marked t form kind marks f ports i r is = (
   λ m. f.sound i r is m,
   λ reached.

@@ -1,4 +1,4 @@
--- From greater numbers to a smaller one: where its chains stand, and whether they are lone.
+-- From greater numbers to a smaller one: where its chains stand, and whether they are single-owner.
 use Rattle.std.proofs.Common.{◌≡◌, ◌≢◌, ℕ, suc, add-one, ◌+◌, ◌<◌, ◌≤◌, Bool, true, false, List, [], ◌∷◌, drop, length, Option, Some, None, refl, sym, ap, ap₂, subst, ◌∙◌, arith, inl, ⊎_elim}
 use Rattle.std.specs.Prelude.{◌==◌, ◌&&◌, if◌then◌else◌, slice_get, IfSome, IsSome, is_some, option_map, MatchOption, unwrap_or}
 use Rattle.std.specs.BTreeMap.{BTreeMap, btree_map_len, get, Updates, IsUpperBound}
@@ -20,15 +20,15 @@ use Rattle.snap_rows.specs.declared.tables.Tables.{Tables}
 use Rattle.snap_rows.specs.declared.tables.Row.{Row}
 use Rattle.snap_rows.specs.declared.tables.Row.TheVariants.{Field, State, Go, Leaf, Stop, Last}
 use Rattle.snap_rows.specs.Entries.{row_at, node_in, node_of, owner_of, var_of, is_node}
-use Rattle.snap_rows.specs.Form.{IsInForm, IsRowInForm, IsStateTest}
+use Rattle.snap_rows.specs.Form.{IsWellFormed, IsRowWellFormed, IsStateTest}
 use Rattle.snap_rows.specs.Rules.{IsValid, RowKeeps, IsKind1, IsStateRow}
 use Rattle.snap_rows.specs.Ways.{LeadsTo, Reached, port, lead}
-use Rattle.snap_rows.specs.Lone.{Chain, field, state, leaf, IsLoneFrom}
+use Rattle.snap_rows.specs.SingleOwner.{Chain, field, state, leaf, IsSingleOwnerFrom}
 use Rattle.snap_rows.specs.Standing.{StandsAt, AreSo, beside_owner, both, of_stages, of_node, standing_in, Splits, Facts, IsNodeFrom, AreNodesFrom, IsGrown}
 use Rattle.snap_rows.proofs.Arrives.{drop_get}
 use Rattle.snap_rows.proofs.Own.{past}
 use Rattle.snap_rows.proofs.Rows.{row_keeps, row_form, node_entry, nodes}
-use Rattle.snap_rows.proofs.Alone.{field_so, state_so, leaf_so, lone_from_so, field_lone, not_apart, state_share, leaf_share, lone_after}
+use Rattle.snap_rows.proofs.Alone.{field_so, state_so, leaf_so, single_owner_from_so, field_single_owner, not_apart, state_share, leaf_share, single_owner_after}
 
 pub not_two : (t : Tables) → t.version ≡ 1 → t.version ≡ 2 → ⊥
 not_two t one two = let h : 1 ≡ 2 = sym one ∙ two in omega arith
@@ -76,26 +76,26 @@ node_there t valid one w n some = by (row_at t w n) refl some
 
 -- ---- chains from 0 come to each number that is reached
 
-reached_lone : (t : Tables) → IsValid t → IsInForm t → t.version ≡ 1 → (w n : ℕ) → Reached t w n → IsLoneFrom t 0 → IsLoneFrom t n
-reached_lone t valid form one w n (port at) lone = lone
-reached_lone t valid form one w n (lead {w = v} {n = m} {b = b} r row to) lone = by b row to (reached_lone t valid form one v m r lone)
+reached_single_owner : (t : Tables) → IsValid t → IsWellFormed t → t.version ≡ 1 → (w n : ℕ) → Reached t w n → IsSingleOwnerFrom t 0 → IsSingleOwnerFrom t n
+reached_single_owner t valid form one w n (port at) single_owner = single_owner
+reached_single_owner t valid form one w n (lead {w = v} {n = m} {b = b} r row to) single_owner = by b row to (reached_single_owner t valid form one v m r single_owner)
   where
-    by : (b : Row) → row_at t v m ≡ Some b → LeadsTo t v m b w n → IsLoneFrom t m → IsLoneFrom t n
+    by : (b : Row) → row_at t v m ≡ Some b → LeadsTo t v m b w n → IsSingleOwnerFrom t m → IsSingleOwnerFrom t n
     by (Field test y z) row to from = λ ws c. from ws (field ((row_keeps t valid Kind v m (Field test y z) row).0 one) to.1 c)
     by (State test y z) row to from = ⊎_elim
         (λ side. let own = owner_there t test (row_form t form v m (State test y z) row).1 in
-        lone_after t m own.0 n y z test ((row_keeps t valid Kind v m (State test y z) row).0 one) own.1 side.1 from)
+        single_owner_after t m own.0 n y z test ((row_keeps t valid Kind v m (State test y z) row).0 one) own.1 side.1 from)
         (λ two. absurd (not_two t one two.0))
         to
-    by (Go x) row to from = subst (IsLoneFrom t) (sym to.1) from
-    by (Leaf ss os) row to from = subst (IsLoneFrom t) (sym to.0) from
-    by Stop row to from = subst (IsLoneFrom t) (sym to.1) from
-    by (Last us os) row to from = subst (IsLoneFrom t) (sym to.0) from
+    by (Go x) row to from = subst (IsSingleOwnerFrom t) (sym to.1) from
+    by (Leaf ss os) row to from = subst (IsSingleOwnerFrom t) (sym to.0) from
+    by Stop row to from = subst (IsSingleOwnerFrom t) (sym to.1) from
+    by (Last us os) row to from = subst (IsSingleOwnerFrom t) (sym to.0) from
 
 -- ---- one number more
 pub record Given (t : Tables) (i : ℕ) (r : RowAt) (so : ℕ → Standing) : Type 0 where
   pub valid : IsValid t
-  pub form : IsInForm t
+  pub form : IsWellFormed t
   pub one : t.version ≡ 1
   pub is : slice_get t.rows i ≡ Some r
   pub node : node_of t r.number ≡ Some r.row
@@ -112,7 +112,7 @@ so_of_node t i r so given = by r.row given.node (nodes t given.form r.number r.r
     n : ℕ
     n = r.number
 
-    by : (b : Row) → node_of t n ≡ Some b → IsRowInForm t b → RowKeeps t Rise r.at n b → RowKeeps t Missing r.at n b → AreSo (StandsAt t n) (of_node t so b) × ((ws : List ℕ) × Chain t n ws)
+    by : (b : Row) → node_of t n ≡ Some b → IsRowWellFormed t b → RowKeeps t Rise r.at n b → RowKeeps t Missing r.at n b → AreSo (StandsAt t n) (of_node t so b) × ((ws : List ℕ) × Chain t n ws)
     by (Field test y z) node fits rise there =
         let fy = given.later y rise.0 in
         let c = side_chain t so r.at y given.valid given.one (there r.at y (refl, inl refl)) fy in
@@ -133,7 +133,7 @@ pub grown : (t : Tables) (i : ℕ) (r : RowAt) (so : ℕ → Standing) → Given
 grown t i r so given whole =
     let s = so_of_node t i r so given in
     record {
-      lone = by r.row given.node (row_there t given.valid Rise i r given.is) whole s.0;
+      single_owner = by r.row given.node (row_there t given.valid Rise i r given.is) whole s.0;
       so = s.0;
       chain = λ b e. s.1;
     }
@@ -141,28 +141,28 @@ grown t i r so given whole =
     n : ℕ
     n = r.number
 
-    by : (b : Row) → node_of t n ≡ Some b → RowKeeps t Rise r.at n b → (Splits b (of_node t so b) → ⊥) → AreSo (StandsAt t n) (of_node t so b) → IsLoneFrom t n
-    by (Field test y z) node rise whole s = field_lone t n y z test node (given.later y rise.0).lone (given.later z rise.1).lone
-    by (State test y z) node rise whole s = lone_from_so t n (of_node t so (State test y z)) (λ e. whole (e, λ h. h)) s
-    by (Leaf ss os) node rise whole s = lone_from_so t n (of_node t so (Leaf ss os)) (λ e. whole (e, λ h. h)) s
-    by (Go x) node rise whole s = lone_from_so t n (of_node t so (Go x)) (λ e. whole (e, λ h. h)) s
-    by Stop node rise whole s = lone_from_so t n (of_node t so Stop) (λ e. whole (e, λ h. h)) s
-    by (Last us os) node rise whole s = lone_from_so t n (of_node t so (Last us os)) (λ e. whole (e, λ h. h)) s
+    by : (b : Row) → node_of t n ≡ Some b → RowKeeps t Rise r.at n b → (Splits b (of_node t so b) → ⊥) → AreSo (StandsAt t n) (of_node t so b) → IsSingleOwnerFrom t n
+    by (Field test y z) node rise whole s = field_single_owner t n y z test node (given.later y rise.0).single_owner (given.later z rise.1).single_owner
+    by (State test y z) node rise whole s = single_owner_from_so t n (of_node t so (State test y z)) (λ e. whole (e, λ h. h)) s
+    by (Leaf ss os) node rise whole s = single_owner_from_so t n (of_node t so (Leaf ss os)) (λ e. whole (e, λ h. h)) s
+    by (Go x) node rise whole s = single_owner_from_so t n (of_node t so (Go x)) (λ e. whole (e, λ h. h)) s
+    by Stop node rise whole s = single_owner_from_so t n (of_node t so Stop) (λ e. whole (e, λ h. h)) s
+    by (Last us os) node rise whole s = single_owner_from_so t n (of_node t so (Last us os)) (λ e. whole (e, λ h. h)) s
 
 -- a row that splits is on a chain from 0
-pub not_lone : (t : Tables) (i : ℕ) (r : RowAt) (so : ℕ → Standing) → Given t i r so → Splits r.row (of_node t so r.row) → IsLoneFrom t 0 → ⊥
-not_lone t i r so given split lone =
+pub not_single_owner : (t : Tables) (i : ℕ) (r : RowAt) (so : ℕ → Standing) → Given t i r so → Splits r.row (of_node t so r.row) → IsSingleOwnerFrom t 0 → ⊥
+not_single_owner t i r so given split single_owner =
     let s = subst (AreSo (StandsAt t r.number)) split.0 (so_of_node t i r so given).0 in
-    by r.row given.node (nodes t given.form r.number r.row given.node).0 split s (reached_lone t given.valid given.form given.one r.at r.number (row_there t given.valid Spare i r given.is) lone)
+    by r.row given.node (nodes t given.form r.number r.row given.node).0 split s (reached_single_owner t given.valid given.form given.one r.at r.number (row_there t given.valid Spare i r given.is) single_owner)
   where
     n : ℕ
     n = r.number
 
-    leaf_apart : (ss : List _) (os : _) → node_of t n ≡ Some (Leaf ss os) → of_stages ss ≡ Apart → AreSo (StandsAt t n) Apart → IsLoneFrom t n → ⊥
+    leaf_apart : (ss : List _) (os : _) → node_of t n ≡ Some (Leaf ss os) → of_stages ss ≡ Apart → AreSo (StandsAt t n) Apart → IsSingleOwnerFrom t n → ⊥
     leaf_apart [] os node e s from = (cc)
     leaf_apart (x ∷ ss) os node e s from = not_apart t n x.at (leaf_share t n x ss os node) s from
 
-    by : (b : Row) → node_of t n ≡ Some b → IsRowInForm t b → Splits b (of_node t so b) → AreSo (StandsAt t n) Apart → IsLoneFrom t n → ⊥
+    by : (b : Row) → node_of t n ≡ Some b → IsRowWellFormed t b → Splits b (of_node t so b) → AreSo (StandsAt t n) Apart → IsSingleOwnerFrom t n → ⊥
     by (Field test y z) node fits split s from = split.1 tt
     by (State test y z) node fits split s from = let own = owner_there t test fits.1 in not_apart t n own.0 (state_share t n own.0 y z test node own.1) s from
     by (Leaf ss os) node fits split s from = leaf_apart ss os node split.0 s from
@@ -216,7 +216,7 @@ nodes_more t k r m m' is node before put others n = ⊎_elim here there (cases_e
         (before_same t k n m (shape false (ne_eqb r.number n other)) (before n))
 
 -- ---- one turn
-given_at : (t : Tables) → IsValid t → IsInForm t → t.version ≡ 1 → (rest : BTreeMap ℕ ℕ) (known : BTreeMap ℕ Standing) (n i : ℕ) → IsGrown t rest known → IsUpperBound nat_cmp rest n → (at : IsNodeFrom t 0 n i)
+given_at : (t : Tables) → IsValid t → IsWellFormed t → t.version ≡ 1 → (rest : BTreeMap ℕ ℕ) (known : BTreeMap ℕ Standing) (n i : ℕ) → IsGrown t rest known → IsUpperBound nat_cmp rest n → (at : IsNodeFrom t 0 n i)
     → Given t i at.entry (standing_in known)
 given_at t valid form one rest known n i grown top at = record {
   valid = valid;
@@ -231,7 +231,7 @@ given_at t valid form one rest known n i grown top at = record {
     by q more None e = e
     by q more (Some j) e = absurd (let h : q ≤ n = ge_from_not_lt n q (top q (ap (λ (o : Option ℕ). is_some o) e)) in omega arith)
 
-pub grown_more : (t : Tables) → IsValid t → IsInForm t → t.version ≡ 1 → (rest rest' : BTreeMap ℕ ℕ) (known known' : BTreeMap ℕ Standing) (n i : ℕ) → IsGrown t rest known → IsUpperBound nat_cmp rest n → (at : IsNodeFrom t 0 n i)
+pub grown_more : (t : Tables) → IsValid t → IsWellFormed t → t.version ≡ 1 → (rest rest' : BTreeMap ℕ ℕ) (known known' : BTreeMap ℕ Standing) (n i : ℕ) → IsGrown t rest known → IsUpperBound nat_cmp rest n → (at : IsNodeFrom t 0 n i)
     → (Splits at.entry.row (of_node t (standing_in known) at.entry.row) → ⊥) → Updates nat_cmp rest rest' n None → Updates nat_cmp known known' n (Some (of_node t (standing_in known) at.entry.row)) → IsGrown t rest' known'
 grown_more t valid form one rest rest' known known' n i before top at whole pops puts = record {
   nodes = λ q j e. ⊎_elim
@@ -251,9 +251,9 @@ grown_more t valid form one rest rest' known known' n i before top at whole pops
     here = subst (Facts t n) (sym (ap (λ o. unwrap_or o Nowhere) puts.1))
         (subst (λ n. Facts t n now) at.number (grown t i at.entry (standing_in known) (given_at t valid form one rest known n i before top at) whole))
 
-pub split_found : (t : Tables) → IsValid t → IsInForm t → t.version ≡ 1 → (rest : BTreeMap ℕ ℕ) (known : BTreeMap ℕ Standing) (n i : ℕ) → IsGrown t rest known → IsUpperBound nat_cmp rest n → (at : IsNodeFrom t 0 n i)
-    → Splits at.entry.row (of_node t (standing_in known) at.entry.row) → IsLoneFrom t 0 → ⊥
-split_found t valid form one rest known n i before top at split = not_lone t i at.entry (standing_in known) (given_at t valid form one rest known n i before top at) split
+pub split_found : (t : Tables) → IsValid t → IsWellFormed t → t.version ≡ 1 → (rest : BTreeMap ℕ ℕ) (known : BTreeMap ℕ Standing) (n i : ℕ) → IsGrown t rest known → IsUpperBound nat_cmp rest n → (at : IsNodeFrom t 0 n i)
+    → Splits at.entry.row (of_node t (standing_in known) at.entry.row) → IsSingleOwnerFrom t 0 → ⊥
+split_found t valid form one rest known n i before top at split = not_single_owner t i at.entry (standing_in known) (given_at t valid form one rest known n i before top at) split
 
 -- at first nothing is known, and nothing need be of a number without a node
 no_chain : (t : Tables) (n : ℕ) (ws : List ℕ) → node_of t n ≡ None → Chain t n ws → ⊥
@@ -268,14 +268,14 @@ grown_none t rest known nodes empty = record {
       let none : node_of t n ≡ None = subst (λ o. MatchOption o (node_of t n ≡ None) (IsNodeFrom t 0 n)) e (nodes n) in
       subst (Facts t n) (ap (λ es. unwrap_or (lookup (λ q. is_eq (nat_cmp n q)) es) Nowhere) (sym empty))
       (record {
-        lone = λ ws c. absurd (no_chain t n ws none c);
+        single_owner = λ ws c. absurd (no_chain t n ws none c);
         so = λ w s. no_chain t n s.0 none s.1;
         chain = λ b node. absurd (false≢true (ap (λ (o : Option Row). is_some o) (sym none ∙ node)));
       });
 }
 
-pub lone_at_end : (t : Tables) (rest : BTreeMap ℕ ℕ) (known : BTreeMap ℕ Standing) → IsGrown t rest known → btree_map_len rest ≤ 0 → IsLoneFrom t 0
-lone_at_end t rest known grown none = (grown.facts 0 (by rest.entries none)).lone
+pub single_owner_at_end : (t : Tables) (rest : BTreeMap ℕ ℕ) (known : BTreeMap ℕ Standing) → IsGrown t rest known → btree_map_len rest ≤ 0 → IsSingleOwnerFrom t 0
+single_owner_at_end t rest known grown none = (grown.facts 0 (by rest.entries none)).single_owner
   where
     by : (es : List (ℕ × ℕ)) → length es ≤ 0 → lookup (λ q. is_eq (nat_cmp 0 q)) es ≡ None
     by [] none = refl

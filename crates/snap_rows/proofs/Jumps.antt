@@ -15,9 +15,9 @@ use Rattle.snap_rows.specs.declared.tables.Row.TheVariants.{Field, State, Go, Le
 use Rattle.snap_rows.specs.declared.tables.Rule.TheVariants.{Kind}
 use Rattle.snap_rows.specs.Chains.{PassesFields, Jumps, LeadsOn}
 use Rattle.snap_rows.specs.Entries.{row_at, node_of}
-use Rattle.snap_rows.specs.Form.{IsInForm, comps}
+use Rattle.snap_rows.specs.Form.{IsWellFormed, comps}
 use Rattle.snap_rows.specs.Rules.{IsValid, IsStateRow, IsFieldRow, IsKind1, IsKind2}
-use Rattle.snap_rows.specs.Steps.{IsFieldRowInForm, GoesOn, IsStep}
+use Rattle.snap_rows.specs.Steps.{IsFieldRowWellFormed, GoesOn, IsStep}
 use Rattle.std.proofs.lemmas.Option.{same_Some}
 use Rattle.snap_rows.proofs.Rows.{All-get, node_entry, nodes, row_form, row_keeps}
 use Rattle.snap_rows.proofs.Ways.{field_row_form, goes_on_by_test}
@@ -55,7 +55,7 @@ field_two t w n test y z e (Go x) kind = same_node t n (Field test y z) (Go x) e
 field_two t w n test y z e (Leaf ss os) kind = same_node t n (Field test y z) (Leaf ss os) e kind.0
 field_two t w n test y z e (Last us os) kind = same_node t n (Field test y z) (Last us os) e kind.0
 
-field_there : (t : Tables) → IsValid t → IsInForm t → (w n : ℕ) (test : Test) (y z : ℕ) → node_of t n ≡ Some (Field test y z) → (b : Row) → row_at t w n ≡ Some b → b ≡ Field test y z
+field_there : (t : Tables) → IsValid t → IsWellFormed t → (w n : ℕ) (test : Test) (y z : ℕ) → node_of t n ≡ Some (Field test y z) → (b : Row) → row_at t w n ≡ Some b → b ≡ Field test y z
 field_there t valid form w n test y z e b here =
     let kind = row_keeps t valid Kind w n b here in
     ⊎_elim (λ one. field_one t valid one w n test y z e b (kind.0 one)) (λ two. field_two t w n test y z e b (kind.1 two)) form.version
@@ -70,7 +70,7 @@ eqb_swap a b = by (a == b) (b == a) refl refl
     by true false e f = absurd (eqb-false b a f (sym (eqb-true a b e)))
     by false true e f = absurd (eqb-false a b e (sym (eqb-true b a f)))
 
-jump_node : (t : Tables) → IsValid t → IsInForm t → (n c v y z : ℕ) → node_of t n ≡ Some (Field (Value c v) y z) → (k : List ℕ) → Jumps t k n (if v == slice_index k c then y else z)
+jump_node : (t : Tables) → IsValid t → IsWellFormed t → (n c v y z : ℕ) → node_of t n ≡ Some (Field (Value c v) y z) → (k : List ℕ) → Jumps t k n (if v == slice_index k c then y else z)
 jump_node t valid form n c v y z e k w there p fields m = by (row_at t w n) refl there
   where
     by : (o : Option Row) → row_at t w n ≡ o → IsSome o → GoesOn t w k p m n (if v == slice_index k c then y else z)
@@ -104,10 +104,10 @@ past_cases : (t : Tables) (k : List ℕ) (n r x : ℕ) (o : Option ℕ) → Jump
 past_cases t k n r x None first after = jumps_on t k n r x first after
 past_cases t k n r x (Some y) first after = first
 
-pub one_leads : (t : Tables) → IsValid t → IsInForm t → (n c v y z : ℕ) → node_of t n ≡ Some (Field (Value c v) y z) → CasesLead t n c ((v, y) ∷ []) z
+pub one_leads : (t : Tables) → IsValid t → IsWellFormed t → (n c v y z : ℕ) → node_of t n ≡ Some (Field (Value c v) y z) → CasesLead t n c ((v, y) ∷ []) z
 one_leads t valid form n c v y z e k = subst (Jumps t k n) (sym (case_more [] v y z (slice_index k c))) (jump_node t valid form n c v y z e k)
 
-pub more_lead : (t : Tables) → IsValid t → IsInForm t → (n c : ℕ) (cs : List (ℕ × ℕ)) (r v y z : ℕ) → CasesLead t n c cs r → node_of t r ≡ Some (Field (Value c v) y z) → CasesLead t n c (cs ++ (v, y) ∷ []) z
+pub more_lead : (t : Tables) → IsValid t → IsWellFormed t → (n c : ℕ) (cs : List (ℕ × ℕ)) (r v y z : ℕ) → CasesLead t n c cs r → node_of t r ≡ Some (Field (Value c v) y z) → CasesLead t n c (cs ++ (v, y) ∷ []) z
 more_lead t valid form n c cs r v y z lead e k =
     subst (Jumps t k n) (sym (case_more cs v y z (slice_index k c))) (past_cases t k n r _ (case_at cs (slice_index k c)) (lead k) (jump_node t valid form r c v y z e k))
 
@@ -116,12 +116,12 @@ pub cases_lead_so : (t : Tables) (n c : ℕ) (cs ds : List (ℕ × ℕ)) (r : �
 cases_lead_so t n c cs ds r same lead k = subst (λ o. Jumps t k n (unwrap_or o r)) (sym (same (slice_index k c))) (lead k)
 
 -- the component of a value test is one of the packet's
-pub comp_below : (t : Tables) → IsInForm t → (n c v y z : ℕ) → node_of t n ≡ Some (Field (Value c v) y z) → c < comps t
+pub comp_below : (t : Tables) → IsWellFormed t → (n c v y z : ℕ) → node_of t n ≡ Some (Field (Value c v) y z) → c < comps t
 comp_below t form n c v y z e = (nodes t form n (Field (Value c v) y z) e).0.0
 
 -- ---- a step along a row, by where it leads
-pub leads_step : (t : Tables) → IsValid t → IsInForm t → (w n : ℕ) (b : Row) → row_at t w n ≡ Some b → (k : List ℕ) (p : Row → Bool) (m : Arrays) (x : Option ℕ)
-    → PassesFields p → p b ≡ is_some x → (IsFieldRowInForm b → IfSome x (LeadsOn t k n b m)) → IsStep t w k p m n x
+pub leads_step : (t : Tables) → IsValid t → IsWellFormed t → (w n : ℕ) (b : Row) → row_at t w n ≡ Some b → (k : List ℕ) (p : Row → Bool) (m : Arrays) (x : Option ℕ)
+    → PassesFields p → p b ≡ is_some x → (IsFieldRowWellFormed b → IfSome x (LeadsOn t k n b m)) → IsStep t w k p m n x
 leads_step t valid form w n b e k p m None fields test leads = record { body = b; row = e; test = test; goes = tt }
 leads_step t valid form w n b e k p m (Some y) fields test leads = record {
   body = b;

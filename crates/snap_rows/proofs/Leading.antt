@@ -7,7 +7,7 @@ use Rattle.std.proofs.lemmas.List.{append_assoc, at_drop_more}
 use Rattle.std.proofs.lemmas.List.Elements.{All-contains, All-contains_itself}
 use Rattle.snap_rows.specs.declared.tables.Row.{Row}
 use Rattle.snap_rows.specs.declared.tables.Row.TheVariants.{Field, State, Go, Leaf, Stop, Last}
-use Rattle.snap_rows.specs.declared.tables.Stage.{Stage as Turn}
+use Rattle.snap_rows.specs.declared.tables.Stage.{Stage as LeafStage}
 use Rattle.snap_rows.specs.declared.tables.Tables.{Tables}
 use Rattle.snap_rows.specs.Entries.{next, rank_at}
 use Rattle.snap_rows.specs.Form.{switch_count}
@@ -70,19 +70,19 @@ next_left t x w to step away is left vs rest =
     omega arith
 
 -- a route that was followed to stage i is followed to the next one
-pub next_stage : (t : Tables) (at w : ℕ) (s : Turn) (ss : List Turn) (i : ℕ) (way ws way' : List ℕ) → i < length ss → s ≡ get_or ss i s → Way t s.at w ws → way' ≡ way ++ ws
-    → ((vs : List ℕ) → Route t w (map (λ (s : Turn). s.at) (drop i ss)) vs → Route t at (map (λ (s : Turn). s.at) ss) (way ++ vs))
-    → (vs : List ℕ) → Route t s.at (map (λ (s : Turn). s.at) (drop (i + 1) ss)) vs → Route t at (map (λ (s : Turn). s.at) ss) (way' ++ vs)
+pub next_stage : (t : Tables) (at w : ℕ) (s : LeafStage) (ss : List LeafStage) (i : ℕ) (way ws way' : List ℕ) → i < length ss → s ≡ get_or ss i s → Way t s.at w ws → way' ≡ way ++ ws
+    → ((vs : List ℕ) → Route t w (map (λ (s : LeafStage). s.at) (drop i ss)) vs → Route t at (map (λ (s : LeafStage). s.at) ss) (way ++ vs))
+    → (vs : List ℕ) → Route t s.at (map (λ (s : LeafStage). s.at) (drop (i + 1) ss)) vs → Route t at (map (λ (s : LeafStage). s.at) ss) (way' ++ vs)
 next_stage t at w s ss i way ws way' within is there items goes vs rest =
-    let cut : map (λ (s : Turn). s.at) (drop i ss) ≡ s.at ∷ map (λ (s : Turn). s.at) (drop (i + 1) ss) =
-    at_drop_more (map (λ (s : Turn). s.at)) ss i s within ∙ ap (λ (y : Turn). y.at ∷ map (λ (s : Turn). s.at) (drop (i + 1) ss)) (sym is) in
-    let route : Route t w (map (λ (s : Turn). s.at) (drop i ss)) (ws ++ vs) = subst (λ l. Route t w l (ws ++ vs)) (sym cut) (leg there rest) in
-    subst (Route t at (map (λ (s : Turn). s.at) ss)) (sym (ap (λ l. l ++ vs) items ∙ append_assoc way ws vs)) (goes (ws ++ vs) route)
+    let cut : map (λ (s : LeafStage). s.at) (drop i ss) ≡ s.at ∷ map (λ (s : LeafStage). s.at) (drop (i + 1) ss) =
+    at_drop_more (map (λ (s : LeafStage). s.at)) ss i s within ∙ ap (λ (y : LeafStage). y.at ∷ map (λ (s : LeafStage). s.at) (drop (i + 1) ss)) (sym is) in
+    let route : Route t w (map (λ (s : LeafStage). s.at) (drop i ss)) (ws ++ vs) = subst (λ l. Route t w l (ws ++ vs)) (sym cut) (leg there rest) in
+    subst (Route t at (map (λ (s : LeafStage). s.at) ss)) (sym (ap (λ l. l ++ vs) items ∙ append_assoc way ws vs)) (goes (ws ++ vs) route)
 
 -- ---- the switches to which a row leads with its own number
-pub leaf_over : (t : Tables) (w : ℕ) (ss : List Turn) (os : _) (ws : List ℕ) → Route t w (map (λ (s : Turn). s.at) ss) ws → AreLedOver t w (Leaf ss os) ws
+pub leaf_over : (t : Tables) (w : ℕ) (ss : List LeafStage) (os : _) (ws : List ℕ) → Route t w (map (λ (s : LeafStage). s.at) ss) ws → AreLedOver t w (Leaf ss os) ws
 leaf_over t w ss os ws route x =
-    (λ l. subst (λ vs. Contains vs x) (same_route t w w (map (λ (s : Turn). s.at) ss) (map (λ (s : Turn). s.at) ss) l.0 ws refl refl l.1 route) l.2, λ c. (ws, route, c))
+    (λ l. subst (λ vs. Contains vs x) (same_route t w w (map (λ (s : LeafStage). s.at) ss) (map (λ (s : LeafStage). s.at) ss) l.0 ws refl refl l.1 route) l.2, λ c. (ws, route, c))
 
 pub go_over : (t : Tables) (w to : ℕ) → AreLedOver t w (Go to) (next t w to ∷ [])
 go_over t w to x = (λ e. (0, omega arith, sym e), λ c. only c.0 c.1 c.2)

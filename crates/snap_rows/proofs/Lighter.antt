@@ -22,7 +22,7 @@ use Rattle.snap_rows.specs.declared.head.Head.TheVariants.{Walk, Stage, Out, Vis
 use Rattle.snap_rows.specs.Actions.{Action, Forward, Deliver, Fork}
 use Rattle.snap_rows.specs.declared.head.Sent.{Sent}
 use Rattle.snap_rows.specs.Entries.{Parts, row_at, port_numbers, next}
-use Rattle.snap_rows.specs.Form.{IsInForm, switch_count}
+use Rattle.snap_rows.specs.Form.{IsWellFormed, switch_count}
 use Rattle.snap_rows.specs.Rules.{IsValid}
 use Rattle.snap_rows.specs.Steps.{Arrives, IsSent}
 use Rattle.snap_rows.specs.Handles.{Handles, sent, forked, asks, goes, forks, begins, passes_on, goes_on, completes, enters, enters_last, seeks, visits, concludes, delivers, carries}
@@ -102,7 +102,7 @@ few t w k m h m' a (carries at away) = tt
 
 -- ---- weights
 -- the copies of a fork weigh the longest way and one at most
-copies_light : (t : Tables) → IsValid t → IsInForm t → (w : ℕ) → w < switch_count t → (k : List ℕ) (xs : List Sent) → All (IsSent t k) xs → sum_by (λ (x : Sent). weight t w (Out x.port)) xs ≤ length xs * (longest t + 1)
+copies_light : (t : Tables) → IsValid t → IsWellFormed t → (w : ℕ) → w < switch_count t → (k : List ℕ) (xs : List Sent) → All (IsSent t k) xs → sum_by (λ (x : Sent). weight t w (Out x.port)) xs ≤ length xs * (longest t + 1)
 copies_light t valid form w low k [] all = omega arith
 copies_light t valid form w low k (x ∷ xs) all =
     let h = copies_light t valid form w low k xs (All-tail (IsSent t k) x xs all) in
@@ -112,7 +112,7 @@ copies_light t valid form w low k (x ∷ xs) all =
     omega arith
 
 -- a head that isn't on its way to a port
-others_lighter : (t : Tables) → IsValid t → IsInForm t → (w : ℕ) → w < switch_count t → (k : List ℕ) (h : Head) (a : Action) → is_out h ≡ false → Arrives t k a → Falls t w (left t w h) a → Few t a → weight_after t w a < weight t w h
+others_lighter : (t : Tables) → IsValid t → IsWellFormed t → (w : ℕ) → w < switch_count t → (k : List ℕ) (h : Head) (a : Action) → is_out h ≡ false → Arrives t k a → Falls t w (left t w h) a → Few t a → weight_after t w a < weight t w h
 others_lighter t valid form w low k h a other arrive f n = subst (λ b. weight_after t w a < left t w h + 1 + cond b 0 (most_outs t * (longest t + 1))) (sym other) (by a arrive f n)
   where
     by : (a : Action) → Arrives t k a → Falls t w (left t w h) a → Few t a → weight_after t w a < left t w h + 1 + most_outs t * (longest t + 1)
@@ -127,7 +127,7 @@ others_lighter t valid form w low k h a other arrive f n = subst (λ b. weight_a
         let p : length copies * (longest t + 1) ≤ most_outs t * (longest t + 1) = mul-le-mul_right (longest t + 1) n in
         omega arith
 
-out_lighter : (t : Tables) → IsValid t → IsInForm t → (w : ℕ) → w < switch_count t → (k : List ℕ) (m : Arrays) (p : ℕ) (h : Head) (m' : Arrays) (a : Action) → h ≡ Out p → Handles t w k m h m' a → weight_after t w a < weight t w (Out p)
+out_lighter : (t : Tables) → IsValid t → IsWellFormed t → (w : ℕ) → w < switch_count t → (k : List ℕ) (m : Arrays) (p : ℕ) (h : Head) (m' : Arrays) (a : Action) → h ≡ Out p → Handles t w k m h m' a → weight_after t w a < weight t w (Out p)
 out_lighter t valid form w low k m p h m' a e (delivers at) = omega arith
 out_lighter t valid form w low k m p h m' a e (carries {p = q} {x = x} at away) =
     let same : q ≡ p = cc in

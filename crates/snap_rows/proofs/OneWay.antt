@@ -7,12 +7,12 @@ use Rattle.snap_core.specs.Arrays.{Arrays, updates}
 use Rattle.snap_rows.specs.declared.tables.Tables.{Tables}
 use Rattle.snap_rows.specs.declared.tables.Row.{Row}
 use Rattle.snap_rows.specs.declared.tables.Row.TheVariants.{Go, Leaf, Last}
-use Rattle.snap_rows.specs.declared.tables.Stage.{Stage as Turn}
+use Rattle.snap_rows.specs.declared.tables.Stage.{Stage as LeafStage}
 use Rattle.snap_rows.specs.declared.head.Head.{Head}
 use Rattle.snap_rows.specs.declared.head.Head.TheVariants.{Walk, Stage as AtStage, Out, Visit}
 use Rattle.snap_rows.specs.Actions.{Action, Forward}
 use Rattle.snap_rows.specs.Entries.{Parts, row_at, next, rank_of}
-use Rattle.snap_rows.specs.Form.{IsInForm}
+use Rattle.snap_rows.specs.Form.{IsWellFormed}
 use Rattle.snap_rows.specs.Handles.{Handles, Follows, arrives, follows, Visits, side, forked, asks, goes, forks, begins, passes_on, goes_on, completes, enters, enters_last, seeks, visits, concludes, delivers, carries}
 use Rattle.std.proofs.lemmas.Option.{same_Some}
 use Rattle.snap_rows.proofs.Rows.{row_form}
@@ -46,27 +46,27 @@ no_side : (o : Option Row) (b b' : Row) (m : Arrays) (k : List ℕ) (x : ℕ) �
 no_side o b b' m k x e e' to none = false≢true (ap (λ (o : Option ℕ). is_some o) (sym none ∙ ap (λ b. side b m k) (same_Some _ _ (sym e' ∙ e)) ∙ to))
 
 -- the row of a number is of version 1 alone
-go_one : (t : Tables) → IsInForm t → (w n x : ℕ) → row_at t w n ≡ Some (Go x) → t.version ≡ 2 → ⊥
+go_one : (t : Tables) → IsWellFormed t → (w n x : ℕ) → row_at t w n ≡ Some (Go x) → t.version ≡ 2 → ⊥
 go_one t form w n x row = not_two t (row_form t form w n (Go x) row).0
 
-leaf_one : (t : Tables) → IsInForm t → (w n : ℕ) (ss : List Turn) (os : List Parts) → row_at t w n ≡ Some (Leaf ss os) → t.version ≡ 2 → ⊥
+leaf_one : (t : Tables) → IsWellFormed t → (w n : ℕ) (ss : List LeafStage) (os : List Parts) → row_at t w n ≡ Some (Leaf ss os) → t.version ≡ 2 → ⊥
 leaf_one t form w n ss os row = not_two t (row_form t form w n (Leaf ss os) row).0
 
 forked_same : (t : Tables) (k : List ℕ) (m : Arrays) (os os' : List Parts) → os ≡ os' → Same m m (forked t os k) (forked t os' k)
 forked_same t k m os os' e = (refl, ap (λ os. forked t os k) e)
 
-record SameStage (ss ss' : List Turn) (os os' : List Parts) (s s' : Turn) : Type 0 where
+record SameStage (ss ss' : List LeafStage) (os os' : List Parts) (s s' : LeafStage) : Type 0 where
   pub stages : ss ≡ ss'
   pub outs : os ≡ os'
   pub turn : s ≡ s'
 
-same_stage : (o : Option Row) (i : ℕ) (ss ss' : List Turn) (os os' : List Parts) (s s' : Turn) → o ≡ Some (Leaf ss os) → o ≡ Some (Leaf ss' os') → slice_get ss i ≡ Some s → slice_get ss' i ≡ Some s' → SameStage ss ss' os os' s s'
+same_stage : (o : Option Row) (i : ℕ) (ss ss' : List LeafStage) (os os' : List Parts) (s s' : LeafStage) → o ≡ Some (Leaf ss os) → o ≡ Some (Leaf ss' os') → slice_get ss i ≡ Some s → slice_get ss' i ≡ Some s' → SameStage ss ss' os os' s s'
 same_stage o i ss ss' os os' s s' e e' is is' =
     let same : Leaf ss os ≡ Leaf ss' os' = same_Some _ _ (sym e ∙ e') in
     let stages : ss ≡ ss' = cc in
     record { stages = stages; outs = cc; turn = same_Some _ _ (sym is ∙ ap (λ ss. slice_get ss i) stages ∙ is') }
 
-pub one_way : (t : Tables) → IsInForm t → (w : ℕ) (k : List ℕ) (m : Arrays) (h : Head) (m' m'' : Arrays) (a b : Action) → Handles t w k m h m' a → Handles t w k m h m'' b → (m' ≡ m'') × (a ≡ b)
+pub one_way : (t : Tables) → IsWellFormed t → (w : ℕ) (k : List ℕ) (m : Arrays) (h : Head) (m' m'' : Arrays) (a b : Action) → Handles t w k m h m' a → Handles t w k m h m'' b → (m' ≡ m'') × (a ≡ b)
 -- walks
 one_way t form w k m h m' m'' a b (asks {n = n} {x = x} {b = c} one row to f) (asks {x = x'} {b = c'} one' row' to' g) =
     let same : x ≡ x' = same_Some _ _ (sym to ∙ ap (λ c. side c m k) (same_Some _ _ (sym row ∙ row')) ∙ to') in
@@ -119,25 +119,25 @@ one_way t form w k m h m' m'' a b (enters_last {n = n} {v = v} {us = us} {os = o
 -- stages
 one_way t form w k m h m' m'' a b (passes_on {n = n} {i = i} {s = s} {ss = ss} {os = os} row is away) (passes_on {s = s'} {ss = ss'} {os = os'} row' is' away') =
     let e = same_stage _ i ss ss' os os' s s' row row' is is' in
-    (refl, ap (λ (s : Turn). Forward (next t w s.at) (AtStage n i)) e.turn)
+    (refl, ap (λ (s : LeafStage). Forward (next t w s.at) (AtStage n i)) e.turn)
 one_way t form w k m h m' m'' a b (passes_on {i = i} {s = s} {ss = ss} {os = os} row is away) (goes_on {s = s'} {ss = ss'} {os = os'} row' is' here more g) =
-    let e = same_stage _ i ss ss' os os' s s' row row' is is' in absurd (away (ap (λ (s : Turn). s.at) e.turn ∙ here))
+    let e = same_stage _ i ss ss' os os' s s' row row' is is' in absurd (away (ap (λ (s : LeafStage). s.at) e.turn ∙ here))
 one_way t form w k m h m' m'' a b (passes_on {i = i} {s = s} {ss = ss} {os = os} row is away) (completes {s = s'} {ss = ss'} {os = os'} row' is' here last) =
-    let e = same_stage _ i ss ss' os os' s s' row row' is is' in absurd (away (ap (λ (s : Turn). s.at) e.turn ∙ here))
+    let e = same_stage _ i ss ss' os os' s s' row row' is is' in absurd (away (ap (λ (s : LeafStage). s.at) e.turn ∙ here))
 one_way t form w k m h m' m'' a b (goes_on {i = i} {s = s} {ss = ss} {os = os} row is here more f) (passes_on {s = s'} {ss = ss'} {os = os'} row' is' away) =
-    let e = same_stage _ i ss ss' os os' s s' row row' is is' in absurd (away (ap (λ (s : Turn). s.at) (sym e.turn) ∙ here))
+    let e = same_stage _ i ss ss' os os' s s' row row' is is' in absurd (away (ap (λ (s : LeafStage). s.at) (sym e.turn) ∙ here))
 one_way t form w k m h m' m'' a b (goes_on {n = n} {i = i} {s = s} {ss = ss} {os = os} row is here more f) (goes_on {s = s'} {ss = ss'} {os = os'} row' is' here' more' g) =
     let e = same_stage _ i ss ss' os os' s s' row row' is is' in
-    one_way t form w k (updates m s.ups k) (AtStage n (i + 1)) m' m'' a b f (subst (λ (s : Turn). Handles t w k (updates m s.ups k) (AtStage n (i + 1)) m'' b) (sym e.turn) g)
+    one_way t form w k (updates m s.ups k) (AtStage n (i + 1)) m' m'' a b f (subst (λ (s : LeafStage). Handles t w k (updates m s.ups k) (AtStage n (i + 1)) m'' b) (sym e.turn) g)
 one_way t form w k m h m' m'' a b (goes_on {i = i} {s = s} {ss = ss} {os = os} row is here more f) (completes {s = s'} {ss = ss'} {os = os'} row' is' here' last) =
     let e = same_stage _ i ss ss' os os' s s' row row' is is' in let l : length ss ≡ length ss' = ap length e.stages in absurd (omega arith)
 one_way t form w k m h m' m'' a b (completes {i = i} {s = s} {ss = ss} {os = os} row is here last) (passes_on {s = s'} {ss = ss'} {os = os'} row' is' away) =
-    let e = same_stage _ i ss ss' os os' s s' row row' is is' in absurd (away (ap (λ (s : Turn). s.at) (sym e.turn) ∙ here))
+    let e = same_stage _ i ss ss' os os' s s' row row' is is' in absurd (away (ap (λ (s : LeafStage). s.at) (sym e.turn) ∙ here))
 one_way t form w k m h m' m'' a b (completes {i = i} {s = s} {ss = ss} {os = os} row is here last) (goes_on {s = s'} {ss = ss'} {os = os'} row' is' here' more g) =
     let e = same_stage _ i ss ss' os os' s s' row row' is is' in let l : length ss ≡ length ss' = ap length e.stages in absurd (omega arith)
 one_way t form w k m h m' m'' a b (completes {i = i} {s = s} {ss = ss} {os = os} row is here last) (completes {s = s'} {ss = ss'} {os = os'} row' is' here' last') =
     let e = same_stage _ i ss ss' os os' s s' row row' is is' in
-    (ap (λ (s : Turn). updates m s.ups k) e.turn, ap (λ os. forked t os k) e.outs)
+    (ap (λ (s : LeafStage). updates m s.ups k) e.turn, ap (λ os. forked t os k) e.outs)
 -- visits
 one_way t form w k m h m' m'' a b (seeks {r = r} {n = n} rank away) (seeks rank' away') = (refl, ap (λ x. Forward (next t w x) (Visit r n)) (same_Some _ _ (sym rank ∙ rank')))
 one_way t form w k m h m' m'' a b (seeks rank away) (visits rank' visit more g) = absurd (away (same_Some _ _ (sym rank ∙ rank')))

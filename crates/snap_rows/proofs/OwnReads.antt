@@ -17,7 +17,7 @@ use Rattle.snap_rows.specs.declared.tables.Row.TheVariants.{Field, State, Go, Le
 use Rattle.snap_rows.specs.declared.tables.Rule.TheVariants.{Owner}
 use Rattle.snap_rows.specs.declared.tables.Tables.{Tables}
 use Rattle.snap_rows.specs.Entries.{row_at, owner_of, rank_of, rank_at, var_of}
-use Rattle.snap_rows.specs.Form.{IsInForm, IsFieldTest, switch_count}
+use Rattle.snap_rows.specs.Form.{IsWellFormed, IsFieldTest, switch_count}
 use Rattle.snap_rows.specs.Handles.{Handles, Follows, arrives, follows, Visits, side, is_field, is_ranked, asks, goes, forks, begins, passes_on, goes_on, completes, enters, enters_last, seeks, visits, concludes, delivers, carries}
 use Rattle.snap_rows.specs.Home.{AtHome, IsVisitAtHome}
 use Rattle.snap_rows.specs.Laws.{AgreeAt}
@@ -56,7 +56,7 @@ field_passes m o k (StateTest s es x) fits = absurd fits
 abbrev pub to : Bool → ℕ → ℕ → Option ℕ
 to b y z = Some (if b then y else z)
 
-side_agrees : (t : Tables) → IsValid t → IsInForm t → t.version ≡ 1 → (w : ℕ) (m o : Arrays) (k : List ℕ) → AgreeAt t w m o → (n : ℕ) (b : Row) → row_at t w n ≡ Some b → side b m k ≡ side b o k
+side_agrees : (t : Tables) → IsValid t → IsWellFormed t → t.version ≡ 1 → (w : ℕ) (m o : Arrays) (k : List ℕ) → AgreeAt t w m o → (n : ℕ) (b : Row) → row_at t w n ≡ Some b → side b m k ≡ side b o k
 side_agrees t valid form one w m o k agree n (Field test y z) row = ap (λ b. to b y z) (field_passes m o k test (row_form t form w n (Field test y z) row).1)
 side_agrees t valid form one w m o k agree n (State test y z) row = ap (λ b. to b y z) (passes_agree t w m o k agree test (row_keeps t valid Owner w n (State test y z) row one))
 side_agrees t valid form one w m o k agree n (Go x) row = refl
@@ -65,7 +65,7 @@ side_agrees t valid form one w m o k agree n Stop row = refl
 side_agrees t valid form one w m o k agree n (Last us os) row = refl
 
 -- ---- ways of version 2
-field_side : (t : Tables) → IsInForm t → (w : ℕ) (m o : Arrays) (k : List ℕ) (n : ℕ) (b : Row) → row_at t w n ≡ Some b → is_field b ≡ true → side b m k ≡ side b o k
+field_side : (t : Tables) → IsWellFormed t → (w : ℕ) (m o : Arrays) (k : List ℕ) (n : ℕ) (b : Row) → row_at t w n ≡ Some b → is_field b ≡ true → side b m k ≡ side b o k
 field_side t form w m o k n (Field test y z) row e = ap (λ b. to b y z) (field_passes m o k test (row_form t form w n (Field test y z) row).1)
 field_side t form w m o k n (State test y z) row e = absurd (false≢true e)
 field_side t form w m o k n (Go x) row e = refl
@@ -73,11 +73,11 @@ field_side t form w m o k n (Leaf ss os) row e = refl
 field_side t form w m o k n Stop row e = refl
 field_side t form w m o k n (Last us os) row e = refl
 
-field_way : (t : Tables) → IsInForm t → (w : ℕ) (k : List ℕ) (m o : Arrays) (n v : ℕ) → Follows t w k is_field m n v → Follows t w k is_field o n v
+field_way : (t : Tables) → IsWellFormed t → (w : ℕ) (k : List ℕ) (m o : Arrays) (n v : ℕ) → Follows t w k is_field m n v → Follows t w k is_field o n v
 field_way t form w k m o n v (arrives row test) = arrives row test
 field_way t form w k m o n v (follows {x = x} {b = b} row test side' f) = follows row test (sym (field_side t form w m o k n b row test) ∙ side') (field_way t form w k m o x v f)
 
-ranked_side : (t : Tables) → IsValid t → IsInForm t → t.version ≡ 2 → (w r : ℕ) (m o : Arrays) (k : List ℕ) → rank_at t r ≡ Some w → AgreeAt t w m o → (n : ℕ) (b : Row) → row_at t w n ≡ Some b → is_ranked t r b ≡ true → side b m k ≡ side b o k
+ranked_side : (t : Tables) → IsValid t → IsWellFormed t → t.version ≡ 2 → (w r : ℕ) (m o : Arrays) (k : List ℕ) → rank_at t r ≡ Some w → AgreeAt t w m o → (n : ℕ) (b : Row) → row_at t w n ≡ Some b → is_ranked t r b ≡ true → side b m k ≡ side b o k
 ranked_side t valid form two w r m o k at agree n (State test y z) row e =
     let within = var_ok t test (row_form t form w n (State test y z) row).1 in
     ap (λ b. to b y z) (passes_agree t w m o k agree test (rank_owner t valid two (var_of test) r w within (eqb-true (rank_of t (var_of test)) r e) at))
@@ -87,13 +87,13 @@ ranked_side t valid form two w r m o k at agree n (Leaf ss os) row e = refl
 ranked_side t valid form two w r m o k at agree n Stop row e = refl
 ranked_side t valid form two w r m o k at agree n (Last us os) row e = refl
 
-ranked_way : (t : Tables) → IsValid t → IsInForm t → t.version ≡ 2 → (w : ℕ) (k : List ℕ) (r : ℕ) (m o : Arrays) → rank_at t r ≡ Some w → AgreeAt t w m o → (n v : ℕ) → Follows t w k (is_ranked t r) m n v → Follows t w k (is_ranked t r) o n v
+ranked_way : (t : Tables) → IsValid t → IsWellFormed t → t.version ≡ 2 → (w : ℕ) (k : List ℕ) (r : ℕ) (m o : Arrays) → rank_at t r ≡ Some w → AgreeAt t w m o → (n v : ℕ) → Follows t w k (is_ranked t r) m n v → Follows t w k (is_ranked t r) o n v
 ranked_way t valid form two w k r m o at agree n v (arrives row test) = arrives row test
 ranked_way t valid form two w k r m o at agree n v (follows {x = x} {b = b} row test side' f) =
     follows row test (sym (ranked_side t valid form two w r m o k at agree n b row test) ∙ side') (ranked_way t valid form two w k r m o at agree x v f)
 
 -- what a visit at its rank's owner comes to
-visit_agrees : (t : Tables) → IsValid t → IsInForm t → t.version ≡ 2 → (w : ℕ) (k : List ℕ) (r n v : ℕ) (us : List Update) (m o : Arrays) → rank_at t r ≡ Some w → IsVisitAtHome t r n → AgreeAt t w m o → Visits t w k m r n v us → Visits t w k o r n v us
+visit_agrees : (t : Tables) → IsValid t → IsWellFormed t → t.version ≡ 2 → (w : ℕ) (k : List ℕ) (r n v : ℕ) (us : List Update) (m o : Arrays) → rank_at t r ≡ Some w → IsVisitAtHome t r n → AgreeAt t w m o → Visits t w k m r n v us → Visits t w k o r n v us
 visit_agrees t valid form two w k r n v us m o at home agree visit =
     let owner : home.owner ≡ w = same_Some _ _ (sym home.rank ∙ at) in
     let row = subst (λ x. row_at t x n ≡ Some home.body) owner home.row in
@@ -113,7 +113,7 @@ visit_agrees t valid form two w k r n v us m o at home agree visit =
 abbrev pub DoesAlike : Tables → ℕ → List ℕ → Head → Arrays → Arrays → Action → Type 0
 DoesAlike t w k h m' o a = (o' : Arrays) × Handles t w k o h o' a × AgreeAt t w m' o'
 
-pub reads_own : (t : Tables) → IsValid t → IsInForm t → (w : ℕ) → w < switch_count t → (k : List ℕ) (h : Head) → AtHome t w h → (m o m' : Arrays) (a : Action) → AgreeAt t w m o → Handles t w k m h m' a → DoesAlike t w k h m' o a
+pub reads_own : (t : Tables) → IsValid t → IsWellFormed t → (w : ℕ) → w < switch_count t → (k : List ℕ) (h : Head) → AtHome t w h → (m o m' : Arrays) (a : Action) → AgreeAt t w m o → Handles t w k m h m' a → DoesAlike t w k h m' o a
 reads_own t valid form w below k h home m o m' a agree (asks {n = n} {x = x} {b = b} one row goes' f) =
     let there : IsSome (row_at t w x) = (subst (λ o. IfSome o (λ y. (n < y) × IsSome (row_at t w y))) goes' (side_goes t valid w n b row m k)).1 in
     let rest = reads_own t valid form w below k (Walk x) there m o m' a agree f in

@@ -2,7 +2,7 @@
 use Rattle.std.proofs.Common.{◌≡◌, ℕ, ◌+◌, ◌<◌, List, [], ◌∷◌, ◌++◌, length, refl, sym, ap, subst, ◌∙◌, arith, append_assoc, append-nil}
 use Rattle.std.specs.List.{All}
 use Rattle.std.proofs.lemmas.List.Elements.{All-append, All-head, All-nil, All-tail}
-use Rattle.snap_rows.specs.Network.{Net, Event, Inject, Step, RunsBy, done, on, RunsCalmlyBy, rests, injects, steps, IsPlainRunBy, packets_of, StepsFirst}
+use Rattle.snap_rows.specs.Network.{Net, Event, Inject, Step, RunsBy, done, on, RunsSequentiallyBy, rests, injects, steps, IsPlainRunBy, packets_of, StepsFirst}
 
 module _ {S L : Type 0} {leads : S → Event → S → List L → Type 0} where
   -- one run behind another
@@ -33,11 +33,11 @@ module _ {S L : Type 0} {leads : S → Event → S → List L → Type 0} where
       let rest = runs-tell Keeps P more tells here.0 in
       (rest.0, All-append P h hs here.1 rest.1)
 
-  -- calm runs are runs
-  pub calm-run : {net : S → Net} {s s' : S} {es : List Event} {hs : List L} → RunsCalmlyBy net leads s es s' hs → RunsBy leads s es s' hs
-  calm-run rests = done
-  calm-run (injects calm first more) = on first (calm-run more)
-  calm-run (steps first more) = on first (calm-run more)
+  -- sequential runs are runs
+  pub sequential-run : {net : S → Net} {s s' : S} {es : List Event} {hs : List L} → RunsSequentiallyBy net leads s es s' hs → RunsBy leads s es s' hs
+  sequential-run rests = done
+  sequential-run (injects sequential first more) = on first (sequential-run more)
+  sequential-run (steps first more) = on first (sequential-run more)
 
 -- each injection is counted
 module _ {S L : Type 0} (net : S → Net) (leads : S → Event → S → List L → Type 0) (counted : (s s' : S) (e : Event) (h : List L) → leads s e s' h → (net s').injected ≡ (net s).injected + length (packets_of (e ∷ []))) where
@@ -67,31 +67,31 @@ module _ {S L : Type 0} (leads : S → Event → S → List L → Type 0) where
     needs_copy : {s n : S} {j : ℕ} {h : List L} → (net s).flying ≡ [] → leads s (Step j) n h → ⊥
     needs_copy {s = s} {n = n} {j = j} {h = h} none goes = let there = copies s n j h goes in let long : length (net s).flying ≡ 0 = ap length none in omega (arith, there, long)
 
-    -- so is the calm run to an end of the same packets
-    pub calm-one : (es es' : List Event) {s n n' : S} {hs hs' : List L} → packets_of es ≡ packets_of es' → All StepsFirst es → All StepsFirst es' → (net n).flying ≡ [] → (net n').flying ≡ []
-        → RunsCalmlyBy net leads s es n hs → RunsCalmlyBy net leads s es' n' hs' → (es ≡ es') × (n ≡ n') × (hs ≡ hs')
-    calm-one es es' packets first first' last last' rests rests = (refl, refl, refl)
-    calm-one es es' packets first first' last last' rests (injects {port = port} {k = k} {es = es2} calm enters more) =
+    -- so is the sequential run to an end of the same packets
+    pub sequential-one : (es es' : List Event) {s n n' : S} {hs hs' : List L} → packets_of es ≡ packets_of es' → All StepsFirst es → All StepsFirst es' → (net n).flying ≡ [] → (net n').flying ≡ []
+        → RunsSequentiallyBy net leads s es n hs → RunsSequentiallyBy net leads s es' n' hs' → (es ≡ es') × (n ≡ n') × (hs ≡ hs')
+    sequential-one es es' packets first first' last last' rests rests = (refl, refl, refl)
+    sequential-one es es' packets first first' last last' rests (injects {port = port} {k = k} {es = es2} sequential enters more) =
         let apart : ◌≡◌ {A = List (ℕ × List ℕ)} [] ((port, k) ∷ packets_of es2) = packets in absurd (cc)
-    calm-one es es' packets first first' last last' rests (steps goes more) = absurd (needs_copy last goes)
-    calm-one es es' packets first first' last last' (injects {port = port} {k = k} {es = es1} calm enters more) rests =
+    sequential-one es es' packets first first' last last' rests (steps goes more) = absurd (needs_copy last goes)
+    sequential-one es es' packets first first' last last' (injects {port = port} {k = k} {es = es1} sequential enters more) rests =
         let apart : ◌≡◌ {A = List (ℕ × List ℕ)} ((port, k) ∷ packets_of es1) [] = packets in absurd (cc)
-    calm-one es es' {n' = n'} packets first first' last last' (injects {s = s} {s' = s1} {port = port} {k = k} {es = es1} {h = h1} calm enters more) (injects {s' = s2} {port = port'} {k = k'} {es = es2} {h = h2} {hs = hs2} calm' enters' more') =
+    sequential-one es es' {n' = n'} packets first first' last last' (injects {s = s} {s' = s1} {port = port} {k = k} {es = es1} {h = h1} sequential enters more) (injects {s' = s2} {port = port'} {k = k'} {es = es2} {h = h2} {hs = hs2} sequential' enters' more') =
         let packets' : ◌≡◌ {A = List (ℕ × List ℕ)} ((port, k) ∷ packets_of es1) ((port', k') ∷ packets_of es2) = packets in
         let entered : ◌≡◌ {A = ℕ × List ℕ} (port, k) (port', k') = cc in
         let event : Inject port k ≡ Inject port' k' = ap (λ (e : ℕ × List ℕ). Inject e.0 e.1) entered in
         let tails : packets_of es1 ≡ packets_of es2 = cc in
         let same = one s (Inject port k) s1 s2 h1 h2 enters (subst (λ e. leads s e s2 h2) (sym event) enters') in
-        let rest = calm-one es1 es2 tails (All-tail StepsFirst (Inject port k) es1 first) (All-tail StepsFirst (Inject port' k') es2 first') last last' more (subst (λ x. RunsCalmlyBy net leads x es2 n' hs2) (sym same.0) more') in
+        let rest = sequential-one es1 es2 tails (All-tail StepsFirst (Inject port k) es1 first) (All-tail StepsFirst (Inject port' k') es2 first') last last' more (subst (λ x. RunsSequentiallyBy net leads x es2 n' hs2) (sym same.0) more') in
         (λ i. event i ∷ rest.0 i, rest.1, λ i. same.1 i ++ rest.2 i)
-    calm-one es es' packets first first' last last' (injects calm enters more) (steps goes more') = absurd (needs_copy calm goes)
-    calm-one es es' packets first first' last last' (steps goes more) rests = absurd (needs_copy last' goes)
-    calm-one es es' packets first first' last last' (steps goes more) (injects calm enters more') = absurd (needs_copy calm goes)
-    calm-one es es' {n' = n'} packets first first' last last' (steps {s = s} {s' = s1} {i = i} {es = es1} {h = h1} goes more) (steps {s' = s2} {i = i'} {es = es2} {h = h2} {hs = hs2} goes' more') =
+    sequential-one es es' packets first first' last last' (injects sequential enters more) (steps goes more') = absurd (needs_copy sequential goes)
+    sequential-one es es' packets first first' last last' (steps goes more) rests = absurd (needs_copy last' goes)
+    sequential-one es es' packets first first' last last' (steps goes more) (injects sequential enters more') = absurd (needs_copy sequential goes)
+    sequential-one es es' {n' = n'} packets first first' last last' (steps {s = s} {s' = s1} {i = i} {es = es1} {h = h1} goes more) (steps {s' = s2} {i = i'} {es = es2} {h = h2} {hs = hs2} goes' more') =
         let event : Step i ≡ Step i' = ap Step (All-head StepsFirst (Step i) es1 first ∙ sym (All-head StepsFirst (Step i') es2 first')) in
         let same = one s (Step i) s1 s2 h1 h2 goes (subst (λ e. leads s e s2 h2) (sym event) goes') in
-        let rest = calm-one es1 es2 packets (All-tail StepsFirst (Step i) es1 first) (All-tail StepsFirst (Step i') es2 first') last last' more (subst (λ x. RunsCalmlyBy net leads x es2 n' hs2) (sym same.0) more') in
+        let rest = sequential-one es1 es2 packets (All-tail StepsFirst (Step i) es1 first) (All-tail StepsFirst (Step i') es2 first') last last' more (subst (λ x. RunsSequentiallyBy net leads x es2 n' hs2) (sym same.0) more') in
         (λ j. event j ∷ rest.0 j, rest.1, λ j. same.1 j ++ rest.2 j)
 
     pub plain-one : {begin s s' : S} {ks : List (ℕ × List ℕ)} {es es' : List Event} {hs hs' : List L} → IsPlainRunBy net leads begin ks es s hs → IsPlainRunBy net leads begin ks es' s' hs' → (es ≡ es') × (s ≡ s') × (hs ≡ hs')
-    plain-one {es = es} {es' = es'} a b = calm-one es es' (a.packets ∙ sym b.packets) a.first b.first a.ended b.ended a.run b.run
+    plain-one {es = es} {es' = es'} a b = sequential-one es es' (a.packets ∙ sym b.packets) a.first b.first a.ended b.ended a.run b.run

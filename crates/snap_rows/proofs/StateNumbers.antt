@@ -16,7 +16,7 @@ use Rattle.snap_rows.specs.declared.tables.Rule.TheVariants.{Kind, Owner}
 use Rattle.snap_rows.specs.declared.tables.Tables.{Tables}
 use Rattle.snap_rows.specs.Bound.{is_state, states, HaveStates, most_hops, most_hops_by, most_stages, longest}
 use Rattle.snap_rows.specs.Entries.{row_at, ranks}
-use Rattle.snap_rows.specs.Form.{IsInForm}
+use Rattle.snap_rows.specs.Form.{IsWellFormed}
 use Rattle.snap_rows.specs.Rules.{IsValid}
 use Rattle.snap_rows.proofs.FallsOne.{Decided, one_decision, one_more}
 use Rattle.snap_rows.proofs.Places.{row_here}
@@ -94,7 +94,7 @@ decides t valid one w n (Leaf ss os) row e = absurd (false≢true e)
 decides t valid one w n Stop row e = absurd (false≢true e)
 decides t valid one w n (Last us os) row e = absurd (false≢true e)
 
-states_apart : (t : Tables) → IsValid t → IsInForm t → t.version ≡ 1 → Apart t.rows
+states_apart : (t : Tables) → IsValid t → IsWellFormed t → t.version ≡ 1 → Apart t.rows
 states_apart t valid form one i j r s below is js e f same =
     let first = decides t valid one r.at r.number r.row (row_here t.rows form.rows_rise r.at r.number i r is refl refl) e in
     let second = decides t valid one s.at r.number s.row (row_here t.rows form.rows_rise s.at r.number j s js refl (sym same)) f in
@@ -102,7 +102,7 @@ states_apart t valid form one i j r s below is js e f same =
     let place : i ≡ j = one_place (λ (x : RowAt). x.at) (λ (x : RowAt). x.number) t.rows form.rows_rise i j r s is js at same in
     omega arith
 
-few_states : (t : Tables) → IsValid t → IsInForm t → t.version ≡ 1 → (ns : List ℕ) → HaveStates t ns → states t ≤ length ns
+few_states : (t : Tables) → IsValid t → IsWellFormed t → t.version ≡ 1 → (ns : List ℕ) → HaveStates t ns → states t ≤ length ns
 few_states t valid form one ns have =
     let same : (a b : ℕ) → Decides (nat_eq a b) (a ≡ b) = λ a b. (eqb-true a b, eq-eqb a b) in
     let listed : (q : ℕ) → Contains (numbers t.rows) q → Contains ns q = λ q c.
@@ -112,7 +112,7 @@ few_states t valid form one ns have =
     let count : length (numbers t.rows) ≡ states t = count_numbers t.rows in
     omega arith
 
-pub enough : (t : Tables) → IsValid t → IsInForm t → (ns : List ℕ) → HaveStates t ns → most_hops t ≤ most_hops_by t ns
+pub enough : (t : Tables) → IsValid t → IsWellFormed t → (ns : List ℕ) → HaveStates t ns → most_hops t ≤ most_hops_by t ns
 enough t valid form ns have = by (t.version == 1) refl
   where
     by : (b : Bool) → (t.version == 1) ≡ b → (if b then states t + most_stages t + 1 else ranks t + 1) * longest t ≤ (if b then length ns + most_stages t + 1 else ranks t + 1) * longest t

@@ -13,7 +13,7 @@ use Rattle.snap_rows.specs.declared.head.Head.{Head}
 use Rattle.snap_rows.specs.declared.head.Head.TheVariants.{Walk, Out, Visit}
 use Rattle.snap_rows.specs.declared.tables.Tables.{Tables}
 use Rattle.snap_rows.specs.Entries.{Parts, next, rank_at, rank_of, ranks}
-use Rattle.snap_rows.specs.Form.{IsInForm, switch_count}
+use Rattle.snap_rows.specs.Form.{IsWellFormed, switch_count}
 use Rattle.snap_rows.specs.Handles.{Handles, enters, seeks, concludes}
 use Rattle.snap_rows.specs.Handles as handles
 use Rattle.snap_rows.specs.Home.{AtHome, IsVisitAtHome}
@@ -103,7 +103,7 @@ steps_ended {q = q} {v = v} (Stay q' v') two comes made ends =
     ⊎_elim (λ same. absurd (let low = ends.0 in let e = same.1 in omega (arith, low, e))) (λ own. visits two comes own (record { last = q; number = v; made = made; ends = ends })) (first_here made)
 steps_ended {q = q} {v = v} (Wait q') two comes made ends = visits two comes ends.1 (record { last = q; number = v; made = made; ends = ends })
 
-visited_fit : (t : Tables) (w : ℕ) (may : ℕ → Bool) (r q v : ℕ) (f : Fate) → IsInForm t → EndsVisits t w may r q v f → FateFits t w f
+visited_fit : (t : Tables) (w : ℕ) (may : ℕ → Bool) (r q v : ℕ) (f : Fate) → IsWellFormed t → EndsVisits t w may r q v f → FateFits t w f
 visited_fit t w may r q v (Seek x h) form ends = (owner_below t form q x ends.0, subst (λ h. AimsAt t w h x) (sym ends.2) (ends.0, ends.1))
 visited_fit t w may r q v (Deliver port) form ends = tt
 visited_fit t w may r q v (Fork outs) form ends = last_outs_fit t form w v ends.2.0 outs.now ends.2.1
@@ -111,7 +111,7 @@ visited_fit t w may r q v (Stay q' v') form ends = tt
 visited_fit t w may r q v (Wait q') form ends = tt
 
 -- visits of a copy whose head comes to the first of them are its step
-pub steps_visited : {t : Tables} {w : ℕ} {k : List ℕ} {may : ℕ → Bool} {m : Arrays} {h : Head} {r n : ℕ} {us : List Update} {f : Fate} → IsInForm t → t.version ≡ 2 → ComesTo t w k m h r n → VisitsBy t w k may m r n us f → StepsBy t w k may m h us f
+pub steps_visited : {t : Tables} {w : ℕ} {k : List ℕ} {may : ℕ → Bool} {m : Arrays} {h : Head} {r n : ℕ} {us : List Update} {f : Fate} → IsWellFormed t → t.version ≡ 2 → ComesTo t w k m h r n → VisitsBy t w k may m r n us f → StepsBy t w k may m h us f
 steps_visited {t = t} {w = w} {may = may} {r = r} {f = f} form two comes made = record {
   steps = steps_ended f two comes made.visited.made made.visited.ends;
   reads = made.reads;
@@ -120,7 +120,7 @@ steps_visited {t = t} {w = w} {may = may} {r = r} {f = f} form two comes made = 
 }
 
 -- one more visit, worked out on the arrays as they were
-pub visiting_on : (t : Tables) → IsValid t → IsInForm t → t.version ≡ 2 → (w : ℕ) (k : List ℕ) (m : Arrays) {may : ℕ → Bool} {r0 n0 : ℕ} (r n v : ℕ) (before after : List Update) (home : IsVisitAtHome t r n) → home.owner ≡ w
+pub visiting_on : (t : Tables) → IsValid t → IsWellFormed t → t.version ≡ 2 → (w : ℕ) (k : List ℕ) (m : Arrays) {may : ℕ → Bool} {r0 n0 : ℕ} (r n v : ℕ) (before after : List Update) (home : IsVisitAtHome t r n) → home.owner ≡ w
     → All (λ (u : Update). rank_of t u.var < r) before → AppendsVisit t w k m r n v before after → may r ≡ true → Visiting t w k may m r0 n0 (updates m before k) r n → Visiting t w k may m r0 n0 (updates m after k) (r + 1) v
 visiting_on t valid form two w k m {may = may} {r0 = r0} {n0 = n0} r n v before after home own below appends admitted made =
     let later = visits_later t valid form two w k m r n v before after home own below appends in
@@ -134,7 +134,7 @@ acts_arrive t w k (Fork outs) a acts home = tt
 acts_arrive t w k (Stay r n) a acts home = absurd acts
 acts_arrive t w k (Wait r) a acts home = tt
 
-pub steps_gone : {t : Tables} {w : ℕ} {k : List ℕ} {may : ℕ → Bool} {m : Arrays} {h : Head} {us : List Update} {f : Fate} → IsValid t → IsInForm t → w < switch_count t → AtHome t w h → IsBeforeNone t w k h → GoesBy t w k m h us f → StepsBy t w k may m h us f
+pub steps_gone : {t : Tables} {w : ℕ} {k : List ℕ} {may : ℕ → Bool} {m : Arrays} {h : Head} {us : List Update} {f : Fate} → IsValid t → IsWellFormed t → w < switch_count t → AtHome t w h → IsBeforeNone t w k h → GoesBy t w k m h us f → StepsBy t w k may m h us f
 steps_gone {t = t} {w = w} {k = k} {m = m} {h = h} {us = us} {f = f} valid form low home early made = record {
   steps = goes early made.acts made.handles;
   reads = made.reads;
@@ -167,12 +167,12 @@ pub forks_gone : {t : Tables} {w : ℕ} {k : List ℕ} {may : ℕ → Bool} {m :
 forks_gone early made = record { steps = goes early made.acts made.handles; reads = made.reads; fits = made.fits; arrives = tt }
 
 -- ---- own arrays alone
-visiting_own : {t : Tables} {w : ℕ} {k : List ℕ} {may : ℕ → Bool} {m : Arrays} {r n : ℕ} {m' : Arrays} {q v : ℕ} → IsValid t → IsInForm t → Visiting t w k may m r n m' q v → (p : Place) → OwnOrSame t w m m' p
+visiting_own : {t : Tables} {w : ℕ} {k : List ℕ} {may : ℕ → Bool} {m : Arrays} {r n : ℕ} {m' : Arrays} {q v : ℕ} → IsValid t → IsWellFormed t → Visiting t w k may m r n m' q v → (p : Place) → OwnOrSame t w m m' p
 visiting_own valid form none p = inr refl
 visiting_own {t = t} {w = w} {k = k} {m = m} valid form (more {m' = m'} {us = us} before own may made) p =
     then_own t w m m' (updates m' us k) p (visiting_own valid form before p) (updates_own t w us m' k p (visit_own t valid form w k m' _ _ _ us own made))
 
 -- a step changes arrays of its switch alone
-pub steps_own : {t : Tables} {w : ℕ} {k : List ℕ} {may : ℕ → Bool} {m : Arrays} {h : Head} {m' : Arrays} {f : Fate} → IsValid t → IsInForm t → Steps t w k may m h m' f → (p : Place) → OwnOrSame t w m m' p
+pub steps_own : {t : Tables} {w : ℕ} {k : List ℕ} {may : ℕ → Bool} {m : Arrays} {h : Head} {m' : Arrays} {f : Fate} → IsValid t → IsWellFormed t → Steps t w k may m h m' f → (p : Place) → OwnOrSame t w m m' p
 steps_own {t = t} {w = w} {k = k} {m = m} {h = h} {m' = m'} valid form (goes {a = a} early acts does) p = handles_own t valid form w k m h m' a does p
 steps_own valid form (visits two comes own visited) p = visiting_own valid form visited.made p

@@ -11,7 +11,7 @@ use Rattle.snap_rows.specs.Actions.{Action, Forward, Deliver, Fork}
 use Rattle.snap_rows.specs.declared.head.Sent.{Sent}
 use Rattle.snap_rows.specs.declared.tables.Row.{Row}
 use Rattle.snap_rows.specs.declared.tables.Row.TheVariants.{Field, State, Go, Leaf, Last}
-use Rattle.snap_rows.specs.declared.tables.Stage.{Stage as Turn}
+use Rattle.snap_rows.specs.declared.tables.Stage.{Stage as LeafStage}
 use Rattle.snap_rows.specs.Entries.{Parts, row_at, next, port_at, port_numbers, rank_of, rank_at, ranks, var_of}
 
 -- a packet on its way to the port that its `outport` names
@@ -68,15 +68,15 @@ pub data Handles (t : Tables) (w : ℕ) (k : List ℕ) : Arrays → Head → Arr
       → Handles t w k m (Walk x) m' a → Handles t w k m (Walk n) m' a
   goes : {m : Arrays} {n x : ℕ} → row_at t w n ≡ Some (Go x) → Handles t w k m (Walk n) m (Forward (next t w x) (Walk n))
   forks : {m : Arrays} {n : ℕ} {os : List Parts} → row_at t w n ≡ Some (Leaf [] os) → Handles t w k m (Walk n) m (forked t os k)
-  begins : {m m' : Arrays} {n : ℕ} {s : Turn} {ss : List Turn} {os : List Parts} {a : Action} → row_at t w n ≡ Some (Leaf (s ∷ ss) os)
+  begins : {m m' : Arrays} {n : ℕ} {s : LeafStage} {ss : List LeafStage} {os : List Parts} {a : Action} → row_at t w n ≡ Some (Leaf (s ∷ ss) os)
       → Handles t w k m (Stage n 0) m' a → Handles t w k m (Walk n) m' a
-  passes_on : {m : Arrays} {n i : ℕ} {s : Turn} {ss : List Turn} {os : List Parts}
+  passes_on : {m : Arrays} {n i : ℕ} {s : LeafStage} {ss : List LeafStage} {os : List Parts}
       → row_at t w n ≡ Some (Leaf ss os) → slice_get ss i ≡ Some s → s.at ≢ w
       → Handles t w k m (Stage n i) m (Forward (next t w s.at) (Stage n i))
-  goes_on : {m m' : Arrays} {n i : ℕ} {s : Turn} {ss : List Turn} {os : List Parts} {a : Action}
+  goes_on : {m m' : Arrays} {n i : ℕ} {s : LeafStage} {ss : List LeafStage} {os : List Parts} {a : Action}
       → row_at t w n ≡ Some (Leaf ss os) → slice_get ss i ≡ Some s → s.at ≡ w
       → i + 1 < length ss → Handles t w k (updates m s.ups k) (Stage n (i + 1)) m' a → Handles t w k m (Stage n i) m' a
-  completes : {m : Arrays} {n i : ℕ} {s : Turn} {ss : List Turn} {os : List Parts}
+  completes : {m : Arrays} {n i : ℕ} {s : LeafStage} {ss : List LeafStage} {os : List Parts}
       → row_at t w n ≡ Some (Leaf ss os) → slice_get ss i ≡ Some s → s.at ≡ w
       → i + 1 ≡ length ss → Handles t w k m (Stage n i) (updates m s.ups k) (forked t os k)
   -- version 2

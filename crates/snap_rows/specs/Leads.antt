@@ -3,7 +3,7 @@ use Rattle.std.specs.Prelude.{◌≡◌, ◌≢◌, ◌⊎◌, ◌↔◌, ℕ, s
 use Rattle.snap_rows.specs.declared.tables.Tables.{Tables}
 use Rattle.snap_rows.specs.declared.tables.Row.{Row}
 use Rattle.snap_rows.specs.declared.tables.Row.TheVariants.{Field, State, Go, Leaf, Stop, Last}
-use Rattle.snap_rows.specs.declared.tables.Stage.{Stage as Turn}
+use Rattle.snap_rows.specs.declared.tables.Stage.{Stage as LeafStage}
 use Rattle.snap_rows.specs.Entries.{row_at, next, rank_of, ranks, var_of}
 use Rattle.snap_rows.specs.Ways.{Route, OwnsBelow, LeadsTo}
 
@@ -18,7 +18,7 @@ abbrev pub LeadsOver : Tables → ℕ → Row → ℕ → Type 0
 LeadsOver t w (Field test y z) x = ⊥
 LeadsOver t w (State test y z) x = (t.version ≡ 2) × OwnsBelow t (suc (rank_of t (var_of test))) x
 LeadsOver t w (Go to) x = x ≡ next t w to
-LeadsOver t w (Leaf stages outs) x = (ws : List ℕ) × Route t w (map (λ (s : Turn). s.at) stages) ws × Contains ws x
+LeadsOver t w (Leaf stages outs) x = (ws : List ℕ) × Route t w (map (λ (s : LeafStage). s.at) stages) ws × Contains ws x
 LeadsOver t w Stop x = OwnsBelow t 1 x
 LeadsOver t w (Last ups outs) x = OwnsBelow t (ranks t) x
 

@@ -88,15 +88,15 @@ abbrev pub Run : Tables → Arrays → List Event → Net → List Happening →
 Run t m es s hs = Runs t (start t m) es s hs
 
 -- the events lead from s to s', and each injection comes with no copy in flight
-pub data RunsCalmlyBy {S L : Type 0} (net : S → Net) (leads : S → Event → S → List L → Type 0) : S → List Event → S → List L → Type 0 where
-  rests : {s : S} → RunsCalmlyBy net leads s [] s []
+pub data RunsSequentiallyBy {S L : Type 0} (net : S → Net) (leads : S → Event → S → List L → Type 0) : S → List Event → S → List L → Type 0 where
+  rests : {s : S} → RunsSequentiallyBy net leads s [] s []
   injects : {s s' s'' : S} {port : ℕ} {k : List ℕ} {es : List Event} {h hs : List L} → (net s).flying ≡ [] → leads s (Inject port k) s' h
-      → RunsCalmlyBy net leads s' es s'' hs → RunsCalmlyBy net leads s (Inject port k ∷ es) s'' (h ++ hs)
+      → RunsSequentiallyBy net leads s' es s'' hs → RunsSequentiallyBy net leads s (Inject port k ∷ es) s'' (h ++ hs)
   steps : {s s' s'' : S} {i : ℕ} {es : List Event} {h hs : List L} → leads s (Step i) s' h
-      → RunsCalmlyBy net leads s' es s'' hs → RunsCalmlyBy net leads s (Step i ∷ es) s'' (h ++ hs)
+      → RunsSequentiallyBy net leads s' es s'' hs → RunsSequentiallyBy net leads s (Step i ∷ es) s'' (h ++ hs)
 
-abbrev pub RunsCalmly : Tables → Net → List Event → Net → List Happening → Type 0
-RunsCalmly t s es s' hs = RunsCalmlyBy (λ (n : Net). n) (Leads t) s es s' hs
+abbrev pub RunsSequentially : Tables → Net → List Event → Net → List Happening → Type 0
+RunsSequentially t s es s' hs = RunsSequentiallyBy (λ (n : Net). n) (Leads t) s es s' hs
 
 -- the packets that are injected, each with its port
 abbrev pub packets_of : List Event → List (ℕ × List ℕ)
@@ -114,12 +114,12 @@ pub record IsPlainRunBy {S L : Type 0} (net : S → Net) (leads : S → Event �
     (begin : S) (ks : List (ℕ × List ℕ)) (es : List Event) (s : S) (hs : List L) : Type 0 where
   pub packets : packets_of es ≡ ks
   pub first : All StepsFirst es
-  pub run : RunsCalmlyBy net leads begin es s hs
+  pub run : RunsSequentiallyBy net leads begin es s hs
   pub ended : (net s).flying ≡ []
 
 abbrev pub IsPlainRun : Tables → Arrays → List (ℕ × List ℕ) → List Event → Net → List Happening → Type 0
 IsPlainRun t m ks es s hs = IsPlainRunBy (λ (n : Net). n) (Leads t) (start t m) ks es s hs
 
 -- each variable as at the switch of its array
-abbrev pub whole : Tables → Net → Arrays
-whole t s p = unwrap_or (option_map (λ w. s.stores w p) (owner_of t p.var)) 0
+abbrev pub global_store : Tables → Net → Arrays
+global_store t s p = unwrap_or (option_map (λ w. s.stores w p) (owner_of t p.var)) 0

@@ -9,10 +9,10 @@ use Rattle.snap_rows.specs.declared.tables.RowAt.{RowAt}
 use Rattle.snap_rows.specs.declared.tables.Tables.{Tables}
 use Rattle.snap_rows.specs.declared.tables.Row.{Row}
 use Rattle.snap_rows.specs.declared.tables.Row.TheVariants.{Field, State, Leaf}
-use Rattle.snap_rows.specs.declared.tables.Stage.{Stage as Turn}
+use Rattle.snap_rows.specs.declared.tables.Stage.{Stage as LeafStage}
 use Rattle.snap_rows.specs.Entries.{node_in, node_of, owner_of, var_of}
 use Rattle.snap_rows.specs.Rules.{IsFieldRow}
-use Rattle.snap_rows.specs.Lone.{Chain, IsLoneFrom}
+use Rattle.snap_rows.specs.SingleOwner.{Chain, IsSingleOwnerFrom}
 
 -- some chain from a number stands at this switch
 abbrev pub StandsAt : Tables → ℕ → ℕ → Type 0
@@ -36,7 +36,7 @@ both (At w) s = beside w s
 both Apart s = Apart
 
 -- neighbours differ, so two stages stand apart
-abbrev pub of_stages : List Turn → Standing
+abbrev pub of_stages : List LeafStage → Standing
 of_stages [] = Nowhere
 of_stages (s ∷ []) = At s.at
 of_stages (s ∷ s' ∷ ss) = Apart
@@ -59,7 +59,7 @@ Splits b s = (s ≡ Apart) × (¬ IsFieldRow b)
 
 -- what the standing of a number says
 pub record Facts (t : Tables) (n : ℕ) (s : Standing) : Type 0 where
-  pub lone : IsLoneFrom t n
+  pub single_owner : IsSingleOwnerFrom t n
   pub so : AreSo (StandsAt t n) s
   pub chain : (b : Row) → node_of t n ≡ Some b → (ws : List ℕ) × Chain t n ws
 

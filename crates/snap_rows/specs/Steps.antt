@@ -45,9 +45,9 @@ Arrives t k (Deliver port) = Unit {0}
 Arrives t k (Fork copies lost) = All (IsSent t k) copies
 
 -- the test of a field row is no state test
-abbrev pub IsFieldRowInForm : Row → Type 0
-IsFieldRowInForm (Field test y z) = IsFieldTest test
-IsFieldRowInForm _ = Unit {0}
+abbrev pub IsFieldRowWellFormed : Row → Type 0
+IsFieldRowWellFormed (Field test y z) = IsFieldTest test
+IsFieldRowWellFormed _ = Unit {0}
 
 -- a visit of number v, with its updates after those before
 abbrev pub AppendsVisit : Tables → ℕ → List ℕ → Arrays → ℕ → ℕ → ℕ → List Update → List Update → Type 0

@@ -10,7 +10,7 @@ use Rattle.snap_rows.specs.declared.head.Head.{Head}
 use Rattle.snap_rows.specs.declared.head.Head.TheVariants.{Out}
 use Rattle.snap_rows.specs.Actions.{Action, Forward, Deliver, Fork}
 use Rattle.snap_rows.specs.declared.head.Sent.{Sent}
-use Rattle.snap_rows.specs.Form.{IsInForm, switch_count}
+use Rattle.snap_rows.specs.Form.{IsWellFormed, switch_count}
 use Rattle.snap_rows.specs.Rules.{IsValid}
 use Rattle.snap_rows.specs.Handles.{Handles}
 use Rattle.snap_rows.specs.Home.{AtHome}
@@ -45,7 +45,7 @@ weight_after t w (Deliver port) = 0
 weight_after t w (Fork copies lost) = sum_by (λ (x : Sent). weight t w (Out x.port)) copies
 
 abbrev pub EachStepIsLighter : Type 0
-EachStepIsLighter = (t : Tables) → IsValid t → IsInForm t → (w : ℕ) → w < switch_count t → (k : List ℕ) (m : Arrays)
+EachStepIsLighter = (t : Tables) → IsValid t → IsWellFormed t → (w : ℕ) → w < switch_count t → (k : List ℕ) (m : Arrays)
     (h : Head) (m' : Arrays) (a : Action) → AtHome t w h → Handles t w k m h m' a → weight_after t w a < weight t w h
 
 -- the steps that copies can still make, at most
@@ -53,5 +53,5 @@ abbrev pub steps_left : Tables → List Copy → ℕ
 steps_left t cs = sum_by (λ (c : Copy). weight t c.at c.head) cs
 
 abbrev pub StepsFall : Type 0
-StepsFall = (t : Tables) → IsValid t → IsInForm t → (s s' : Net) (i : ℕ) (hs : List Happening)
+StepsFall = (t : Tables) → IsValid t → IsWellFormed t → (s s' : Net) (i : ℕ) (hs : List Happening)
     → All (IsBounded t) s.flying → Leads t s (Step i) s' hs → steps_left t s'.flying < steps_left t s.flying

@@ -7,7 +7,7 @@ ghost use Rattle.snap_rows.specs.declared.tables.Row.TheVariants.{Field};
 ghost use Rattle.snap_rows.specs.declared.tables.Tables.{Tables};
 ghost use Rattle.snap_rows.specs.Chains.{picked, IsChain, AreChains};
 ghost use Rattle.snap_rows.specs.Entries.{node_of};
-ghost use Rattle.snap_rows.specs.Form.{IsInForm};
+ghost use Rattle.snap_rows.specs.Form.{IsWellFormed};
 ghost use Rattle.snap_rows.specs.Rules.{IsValid};
 ghost use Rattle.snap_rows.specs.Standing.{AreNodesFrom, place_in};
 
@@ -60,7 +60,7 @@ pub(crate) struct Chains {
 impl Chains {
     /// The chains of valid tables.
     pub(crate) fn of(alloc: Global, tables: &Tables, nodes: &Numbered) -> Result<Chains, NoMemory>
-        requires form { IsInForm tables.now }
+        requires form { IsWellFormed tables.now }
         requires valid { IsValid tables.now }
         requires nodes { AreNodesFrom tables.now 0 (place_in nodes.now) }
         ensures { IfOk result (AreChains tables.now) }
@@ -235,7 +235,7 @@ fn chain_from(
     ways: &[u8],
     first: u64,
 ) -> Result<Option<Chain>, NoMemory>
-    requires form { IsInForm tables.now }
+    requires form { IsWellFormed tables.now }
     requires valid { IsValid tables.now }
     requires nodes { AreNodesFrom tables.now 0 (place_in nodes.now) }
     ensures { IfOk result (λ o. IfSome o (IsChain tables.now)) }

@@ -10,7 +10,7 @@ ghost use Rattle.snap_rows.specs.declared.tables.ArrayAt.{ArrayAt};
 ghost use Rattle.snap_rows.specs.declared.tables.Row.{Row};
 ghost use Rattle.snap_rows.specs.declared.tables.RowAt.{RowAt};
 ghost use Rattle.snap_rows.specs.declared.tables.Hop.{Hop};
-ghost use Rattle.snap_rows.specs.Form.{IsRowInForm, IsInForm, row_cmp, hop_cmp, array_count, switch_count};
+ghost use Rattle.snap_rows.specs.Form.{IsRowWellFormed, IsWellFormed, row_cmp, hop_cmp, array_count, switch_count};
 ghost use Rattle.snap_rows.specs.Places.{IsRowPlace, StandBefore, hop_said, is_before, port_said};
 ghost use Rattle.snap_rows.specs.Rules.{IsValid};
 ghost use Rattle.snap_rows.specs.Aims.{aim_of};
@@ -29,9 +29,9 @@ impl Valid {
     /// The row of a switch and number.
     pub(crate) fn row(&self, at: u16, number: u64) -> Option<&Row>
         ensures row { option_map (λ r. r.now) result ≡ row_at self.now at number }
-        ensures form { IfSome result (λ r. IsRowInForm self.now r.now) }
+        ensures form { IfSome result (λ r. IsRowWellFormed self.now r.now) }
         ensures valid { IsValid self.now }
-        ensures all_form { IsInForm self.now }
+        ensures all_form { IsWellFormed self.now }
     {
         self.row_near(self.shift(at), at, number)
     }
@@ -46,9 +46,9 @@ impl Valid {
     #[inline(always)]
     fn row_near(&self, shift: u64, at: u16, number: u64) -> Option<&Row>
         ensures row { option_map (λ r. r.now) result ≡ row_at self.now at number }
-        ensures form { IfSome result (λ r. IsRowInForm self.now r.now) }
+        ensures form { IfSome result (λ r. IsRowWellFormed self.now r.now) }
         ensures valid { IsValid self.now }
-        ensures all_form { IsInForm self.now }
+        ensures all_form { IsWellFormed self.now }
     {
         row(
             &self.tables().rows,
@@ -63,7 +63,7 @@ impl Valid {
     pub(crate) fn row_there(&self, shift: u64, at: u16, number: u64) -> &Row
         requires { IsSome (row_at self.now at number) }
         ensures row { row_at self.now at number ≡ Some result.now }
-        ensures form { IsRowInForm self.now result.now }
+        ensures form { IsRowWellFormed self.now result.now }
     {
         match self.row_near(shift, at, number) {
             Some(row) => row,
@@ -331,7 +331,7 @@ fn hop_at(hops: &[Hop], place: usize, at: u16, target: u16) -> Option<u16>
 
 /// The next hop of a switch towards another.
 pub(crate) fn next(tables: &Tables, at: u16, target: u16) -> u16
-    requires { IsInForm tables.now }
+    requires { IsWellFormed tables.now }
     ensures { result ≡ next tables.now at target }
 {
     let guess = hop_guess(tables.switches.items().len(), at, target);

@@ -7,7 +7,7 @@ ghost use Rattle.snap_core.specs.Arrays.{Arrays};
 ghost use Rattle.snap_core.specs.Cells.{arrays_of};
 ghost use Rattle.snap_rows.specs.declared.tables.Row.TheVariants.{Leaf, Last};
 ghost use Rattle.snap_rows.specs.Entries.{row_at, rank_at, owner_of};
-ghost use Rattle.snap_rows.specs.Form.{IsInForm, comps, switch_count};
+ghost use Rattle.snap_rows.specs.Form.{IsWellFormed, comps, switch_count};
 ghost use Rattle.snap_rows.specs.Home.{AtHome};
 ghost use Rattle.snap_rows.specs.Steps.{IsGoOrLeaf, IsLast};
 ghost use Rattle.snap_rows.specs.Stepping.{FateArrives, FateFits, GoesBy, Steps, StepsBy, VisitsBy, held_back};
@@ -101,7 +101,7 @@ fn staged<'a>(
     ups: &mut Dues<'a>,
 ) -> Result<Fate<'a>, NoMemory>
     requires packet { length packet.now ≡ comps tables.now }
-    requires form { IsInForm tables.now }
+    requires form { IsWellFormed tables.now }
     requires row { row_at tables.now at leaf ≡ Some (Leaf stages.now outs.now) }
     requires more { stage < length stages.now }
     requires none { ups.old ≡ [] }
@@ -139,7 +139,7 @@ fn leafed<'a>(
     ups: &mut Dues<'a>,
 ) -> Result<Fate<'a>, NoMemory>
     requires packet { length packet.now ≡ comps tables.now }
-    requires form { IsInForm tables.now }
+    requires form { IsWellFormed tables.now }
     requires row { row_at tables.now at leaf ≡ Some (Leaf stages.now outs.now) }
     requires none { ups.old ≡ [] }
     ensures { IfOk result (λ fate. (m : Arrays) → GoesBy tables.now at packet.now m (Head.Walk leaf) ups.new fate) }

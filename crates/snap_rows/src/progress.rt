@@ -4,12 +4,12 @@ ghost use Rattle.snap_rows.specs.Progress.{CanBeHandled, IsHandledOneWay, PlainR
 ghost use Rattle.snap_rows.specs.Weight.{EachStepIsLighter, StepsFall};
 
 /// A head at home can be handled.
-pub fn steps_can_be_made()
+pub fn steps_make_progress()
     ensures { CanBeHandled }
 {}
 
 /// It is handled in one way alone.
-pub fn steps_are_made_one_way()
+pub fn steps_are_deterministic()
     ensures { IsHandledOneWay }
 {}
 

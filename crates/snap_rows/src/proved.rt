@@ -1,7 +1,7 @@
 //! Tables that are proved to be valid.
 
 ghost use Rattle.std.specs.Prelude.{◌≡◌, IfOk};
-ghost use Rattle.snap_rows.specs.Form.{IsInForm};
+ghost use Rattle.snap_rows.specs.Form.{IsWellFormed};
 ghost use Rattle.snap_rows.specs.Rules.{IsValid};
 
 use crate::calls::proved_valid;
@@ -22,18 +22,18 @@ impl Model for Proved {
 
     ghost Value = { Tables };
 
-    ghost use Rattle.snap_rows.specs.Form.{IsInForm};
+    ghost use Rattle.snap_rows.specs.Form.{IsWellFormed};
     ghost use Rattle.snap_rows.specs.Rules.{IsValid};
 
     ghost view = { λ a. a.tables };
 
-    ghost invariant = { λ a. IsInForm a.tables × IsValid a.tables };
+    ghost invariant = { λ a. IsWellFormed a.tables × IsValid a.tables };
 }
 
 impl Proved {
     /// These tables. Takes no memory.
     pub fn new(tables: Tables) -> Proved
-        requires form { IsInForm tables }
+        requires form { IsWellFormed tables }
         requires valid { IsValid tables }
         ensures { result ≡ tables }
     {
@@ -43,7 +43,7 @@ impl Proved {
     /// Lends the tables. Takes no memory.
     pub fn tables(&self) -> &Tables
         ensures tables { result.now ≡ self.now }
-        ensures form { IsInForm self.now }
+        ensures form { IsWellFormed self.now }
         ensures valid { IsValid self.now }
     {
         &self.tables

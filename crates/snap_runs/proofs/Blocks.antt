@@ -10,7 +10,7 @@ use Rattle.snap_rows.specs.declared.head.Sent.{Sent}
 use Rattle.snap_rows.specs.Happenings.{deliveries_of, losses_of, number_of}
 use Rattle.snap_rows.specs.Network.{Happening}
 use Rattle.std.proofs.lemmas.Option.{same_Some}
-use Rattle.snap_trace.specs.Reports.{out_lines, lost_line}
+use Rattle.snap_report.specs.Reports.{out_lines, lost_line}
 use Rattle.snap_runs.specs.declared.frames.Frames.{Frames}
 use Rattle.snap_runs.specs.Reports.{AreBlocksBy, IsBlockBy, hops_text, packet_line}
 use Rattle.snap_runs.specs.Tracing.{HappenTo}

@@ -6,11 +6,11 @@ use Rattle.std.proofs.lemmas.List.Elements.{All-nil}
 use Rattle.snap_core.specs.Arrays.{zero_arrays}
 use Rattle.snap_rows.specs.declared.tables.Tables.{Tables}
 use Rattle.snap_rows.specs.Network.{StepsFirst, start, rests}
-use Rattle.snap_trace.specs.declared.fault.TraceFault.TheVariants.{Read, Write, Limit, Packets, Undefined, NoMemory}
-use Rattle.snap_trace.specs.OneSwitch.{RunEnding}
-use Rattle.snap_trace.specs.Reading.{spelled_where}
-use Rattle.snap_trace.specs.Runner.{Ends, FirstBlocks, WritesRun}
-use Rattle.snap_trace.specs.Spelled.{Spelled}
+use Rattle.snap_report.specs.declared.fault.TraceFault.TheVariants.{Read, Write, Limit, Packets, Undefined, NoMemory}
+use Rattle.snap_report.specs.OneSwitch.{RunEnding}
+use Rattle.snap_report.specs.Reading.{spelled_where}
+use Rattle.snap_report.specs.Runner.{Ends, FirstBlocks, WritesRun}
+use Rattle.snap_report.specs.Spelled.{Spelled}
 use Rattle.snap_runs.specs.declared.frames.Frames.{Frames}
 use Rattle.snap_runs.specs.declared.tracer.Tracer.{Tracer}
 use Rattle.snap_runs.specs.Plain.{ArePlainBlocksBy, EndsAs, IsPlainReportBy, Writes, WritesTraceBy}

@@ -9,12 +9,12 @@ use Rattle.snap_core.specs.Arrays.{zero_arrays}
 use Rattle.snap_core.specs.Listing.{IsListing}
 use Rattle.snap_io.proofs.OutputLemmas.{waits-first, waits-same}
 use Rattle.snap_rows.specs.Entries.{port_at}
-use Rattle.snap_rows.specs.Network.{Inject, IsPlainRun, start, rests, whole}
-use Rattle.snap_net.specs.Shown.{Shows}
-use Rattle.snap_trace.specs.declared.fault.TraceFault.TheVariants.{Read, Write, Limit, Packets, Undefined, NoMemory}
-use Rattle.snap_trace.specs.OneSwitch.{RunEnding}
-use Rattle.snap_trace.specs.Reports.{end_text}
-use Rattle.snap_trace.specs.Runner.{PutsEnd as EndPut, Takes}
+use Rattle.snap_rows.specs.Network.{Inject, IsPlainRun, start, rests, global_store}
+use Rattle.snap_net.specs.Shown.{Represents}
+use Rattle.snap_report.specs.declared.fault.TraceFault.TheVariants.{Read, Write, Limit, Packets, Undefined, NoMemory}
+use Rattle.snap_report.specs.OneSwitch.{RunEnding}
+use Rattle.snap_report.specs.Reports.{end_text}
+use Rattle.snap_report.specs.Runner.{PutsEnd as EndPut, Takes}
 use Rattle.snap_runs.specs.declared.tracer.Tracer.{Tracer}
 use Rattle.snap_runs.specs.Plain.{ArePlainBlocksBy, IsPlainReportBy, entering}
 use Rattle.snap_runs.specs.Reading.{has_port}
@@ -25,7 +25,7 @@ use Rattle.snap_runs.proofs.Blocks.{blocks-none, blocks-push}
 use Rattle.snap_runs.proofs.Runs.{plain-then}
 
 -- before the first packet
-pub stands-first : (v : Tracer) → Shows v.net (start v.net.tables zero_arrays) → Stands v [] [] v
+pub stands-first : (v : Tracer) → Represents v.net (start v.net.tables zero_arrays) → Stands v [] [] v
 stands-first v shows = record {
   tables = refl;
   hops_same = refl;
@@ -91,7 +91,7 @@ module _ (first : Tracer) (packets : List (List ℕ)) (text : List ℕ) (v : Tra
   -- the end of the report was put
   pub report-put : (before after : List ℕ) → PutsEnd v.net before after → (out : Option (List ℕ)) → EndPut (IsPlainReportBy first.frames first.net.tables first.hops packets) text out out before after (Ok tt)
   report-put before after put out =
-      let h = subst (λ t. (entries : List Entry) × IsListing (whole t c.state) entries × (after ≡ before ++ end_text (array_names t) entries)) c.tables (put c.state c.shows) in
+      let h = subst (λ t. (entries : List Entry) × IsListing (global_store t c.state) entries × (after ≡ before ++ end_text (array_names t) entries)) c.tables (put c.state c.shows) in
       let end = end_text (array_names first.net.tables) h.0 in (
         end,
         record { events = c.events; end = c.state; happenings = c.happenings; run = c.run; report = record { blocks = text; are = c.blocks; entries = h.0; listed = h.1; is = refl } },

@@ -15,7 +15,7 @@ pub mod Closing
 pub mod Orders
 pub mod Spelling
 pub mod OneSchedule
-pub mod CalmSchedule
+pub mod SequentialSchedule
 pub mod Playing
 pub mod Played
 pub mod Scheduled
@@ -23,3 +23,7 @@ pub mod ReadWhole
 pub mod Passing
 pub mod Taken
 pub mod LineTexts
+pub mod Through
+pub mod ChangesSettling
+pub mod ChangesComing
+pub mod Shapes

@@ -9,7 +9,7 @@ use Rattle.snap_core.proofs.OneListing.{one_listing}
 use Rattle.snap_rows.specs.declared.tables.Tables.{Tables}
 use Rattle.snap_rows.specs.Happenings.{losses_of}
 use Rattle.snap_rows.specs.Network.{Net, Happening}
-use Rattle.snap_trace.specs.Reports.{out_lines, end_text, lost_line}
+use Rattle.snap_report.specs.Reports.{out_lines, end_text, lost_line}
 use Rattle.snap_runs.specs.declared.frames.Frames.{Frames}
 use Rattle.snap_runs.specs.Reports.{IsBlockBy, AreBlocksBy, IsRunReportBy, packet_line, hops_text, packets_delivered, array_names}
 use Rattle.snap_runs.proofs.InOrder.{same_lists, same_packets_in_order}

@@ -2,7 +2,7 @@
 use Rattle.std.proofs.Common.{◌≡◌, [], ◌∷◌, refl, sym, subst, ◌∙◌}
 use Rattle.std.proofs.lemmas.Option.{slice_get_within, same_Some}
 use Rattle.snap_rows.specs.declared.tables.Tables.{Tables}
-use Rattle.snap_rows.specs.Form.{IsInForm}
+use Rattle.snap_rows.specs.Form.{IsWellFormed}
 use Rattle.snap_rows.specs.Handles.{Handles}
 use Rattle.snap_rows.specs.Network.{Copy, Net, Leads, inject, step, injected, stepped, happening}
 use Rattle.snap_rows.proofs.OneWay.{one_way}
@@ -10,7 +10,7 @@ use Rattle.snap_rows.proofs.Runs.{LeadsOneWay, StepsCopies, plain-one}
 use Rattle.snap_runs.specs.Laws.{PlainRunsAreOne}
 
 -- one event leads to one state, with one happening
-pub leads_one : (t : Tables) → IsInForm t → LeadsOneWay (Leads t)
+pub leads_one : (t : Tables) → IsWellFormed t → LeadsOneWay (Leads t)
 leads_one t form s e n n' h h' (inject {port = port} {w = w} {k = k} own names) (inject {w = w'} own' names') = ((λ i. injected s (same_Some w w' (sym own ∙ own') i) port k), refl)
 leads_one t form s e n n' h h' (step {i = i} {c = c} {m = m} {a = a} found does) (step {c = c'} {m = m'} {a = a'} found' does') =
     let copy : c ≡ c' = same_Some _ _ (sym found ∙ found') in

@@ -4,14 +4,14 @@ use Rattle.std.specs.Prelude.{slice_index, Result}
 use Rattle.std.specs.declared.option.Option.{Option}
 use Rattle.snap_core.specs.Arrays.{zero_arrays}
 use Rattle.snap_rows.specs.declared.tables.Tables.{Tables}
-use Rattle.snap_rows.specs.Form.{IsInForm}
+use Rattle.snap_rows.specs.Form.{IsWellFormed}
 use Rattle.snap_rows.specs.Network.{Net, Event, Inject, Step, Happening, Leads, RunsBy, on, start}
 use Rattle.snap_rows.proofs.Runs.{LeadsOneWay, StepsCopies, runs-cut, runs-one}
-use Rattle.snap_trace.specs.declared.fault.TraceFault.TheVariants as trace
-use Rattle.snap_trace.specs.Spelled.{ended, refused}
+use Rattle.snap_report.specs.declared.fault.TraceFault.TheVariants as trace
+use Rattle.snap_report.specs.Spelled.{ended, refused}
 use Rattle.snap_runs.specs.declared.frames.Frames.TheVariants.{Plain}
-use Rattle.snap_runs.specs.declared.event.Order.{Order}
-use Rattle.snap_runs.specs.declared.event.Order.TheVariants as order
+use Rattle.snap_runs.specs.declared.event.Instruction.{Instruction}
+use Rattle.snap_runs.specs.declared.event.Instruction.TheVariants as order
 use Rattle.snap_runs.specs.declared.schedule.ScheduleFault.{ScheduleFault}
 use Rattle.snap_runs.specs.declared.schedule.ScheduleFault.TheVariants.{Packets, Read, TooLong, Line, Write, NoMemory}
 use Rattle.snap_runs.specs.Laws.{RefusedLinesAreOne, RefusedLinesAreTold, ReportedOrRefused, ScheduleReportsAreOne, ScheduledRunsAreOne}
@@ -74,10 +74,10 @@ module _ {S L : Type 0} (net : S → Net) (leads : S → Event → S → List L 
 
   -- what a line orders was done, so it could be
   was_done : {line : List ℕ} {lines ks left : List (List ℕ)} {es : List Event} {s n : S} {hs : List L} → Spells (line ∷ lines) ks es left → RunsBy leads s es n hs → CantBeDone (order_by line) ks (net s) → ⊥
-  was_done {ks = ks} {s = s} (skips e n) ran cant = subst (λ (o : Option Order). CantBeDone o ks (net s)) e cant
-  was_done {s = s} (injects {k = k} {ks = ks} e n) ran cant = let none : k ∷ ks ≡ [] = subst (λ (o : Option Order). CantBeDone o (k ∷ ks) (net s)) e cant in cc
+  was_done {ks = ks} {s = s} (skips e n) ran cant = subst (λ (o : Option Instruction). CantBeDone o ks (net s)) e cant
+  was_done {s = s} (injects {k = k} {ks = ks} e n) ran cant = let none : k ∷ ks ≡ [] = subst (λ (o : Option Instruction). CantBeDone o (k ∷ ks) (net s)) e cant in cc
   was_done {ks = ks} {s = s} (steps {i = i} e n) (on {s' = s'} {h = h} goes more) cant =
-      let past : length (net s).flying ≤ i = subst (λ (o : Option Order). CantBeDone o ks (net s)) e cant in
+      let past : length (net s).flying ≤ i = subst (λ (o : Option Instruction). CantBeDone o ks (net s)) e cant in
       let there = copies s s' i h goes in omega (arith, past, there)
 
   -- a run of more lines has done each of the first ones
@@ -146,7 +146,7 @@ obeys_one t form = obeys-one (λ (s : Net). s) (Leads t) (start t zero_arrays) (
 pub refused_one : RefusedLinesAreOne
 refused_one t form = refused-one (λ (s : Net). s) (Leads t) (start t zero_arrays) (leads_one t form) (steps_copies t)
 
-pub ended_or_refused : (t : Tables) → IsInForm t → (ks lines : List (List ℕ)) (s : Net) (hs : List Happening) → Obeys t ks lines [] s hs → s.flying ≡ [] → (number : ℕ) → RefusesLine t ks lines number → ⊥
+pub ended_or_refused : (t : Tables) → IsWellFormed t → (ks lines : List (List ℕ)) (s : Net) (hs : List Happening) → Obeys t ks lines [] s hs → s.flying ≡ [] → (number : ℕ) → RefusesLine t ks lines number → ⊥
 ended_or_refused t form = ended-or-refused (λ (s : Net). s) (Leads t) (start t zero_arrays) (leads_one t form) (steps_copies t)
 
 pub reported_or_refused : ReportedOrRefused

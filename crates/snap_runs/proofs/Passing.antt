@@ -10,7 +10,7 @@ use Rattle.snap_rows.specs.Entries.{next}
 use Rattle.snap_rows.specs.Happenings.{number_of}
 use Rattle.snap_rows.specs.Network.{Happening, Crossed, Delivered, Forked}
 use Rattle.snap_rows.specs.Ways.{Way, here, on}
-use Rattle.snap_head.specs.Frames.{frame}
+use Rattle.snap_net.specs.Frames.{frame}
 use Rattle.snap_net.specs.Passing.{crossings}
 use Rattle.snap_net.specs.Travels.{Crosses, ends, goes, Hears}
 use Rattle.snap_runs.specs.declared.frames.Frames.{Frames}

@@ -8,10 +8,10 @@ use Rattle.snap_core.specs.declared.place.Entry.{Entry}
 use Rattle.snap_core.specs.declared.program.Field.{Field}
 use Rattle.snap_core.specs.Listing.{IsListing}
 use Rattle.snap_rows.specs.declared.tables.Tables.{Tables}
-use Rattle.snap_rows.specs.Network.{Net, Event, Happening, Leads, inject, step, packets_of, whole}
+use Rattle.snap_rows.specs.Network.{Net, Event, Happening, Leads, inject, step, packets_of, global_store}
 use Rattle.snap_rows.proofs.Runs.{runs-count}
-use Rattle.snap_net.specs.Shown.{Shows, flown}
-use Rattle.snap_trace.specs.Reports.{end_text, out_lines, lost_line}
+use Rattle.snap_net.specs.Shown.{Represents, flown}
+use Rattle.snap_report.specs.Reports.{end_text, out_lines, lost_line}
 use Rattle.snap_runs.specs.declared.frames.Frames.{Frames}
 use Rattle.snap_runs.specs.declared.frames.Frames.TheVariants.{Plain}
 use Rattle.snap_runs.specs.declared.play.Play.{Play}
@@ -140,7 +140,7 @@ schedule-report t hops ks lines v mid out puts end p none rests =
     let c : length (left_in v) ≡ 0 = ap length left in
     let d = p.counted in
     let e = puts.as_many in
-    let still = subst (λ t'. (s : Net) → Shows v.net s → (entries : List Entry) × IsListing (whole t' s) entries × (out ≡ mid ++ end_text (array_names t') entries)) p.tables end in
+    let still = subst (λ t'. (s : Net) → Represents v.net s → (entries : List Entry) × IsListing (global_store t' s) entries × (out ≡ mid ++ end_text (array_names t') entries)) p.tables end in
     let listed = still p.state p.shows in
     record {
       state = p.state;

@@ -17,18 +17,18 @@ use Rattle.snap_rows.specs.Network.{Copy, Net, Inject, Step, Happening, Crossed,
 use Rattle.snap_rows.proofs.Runs.{runs-then}
 use Rattle.snap_net.specs.declared.flying.Flying.{Flying}
 use Rattle.snap_net.specs.declared.happened.Moved.{Moved}
-use Rattle.snap_net.specs.Shown.{Held, IsDone, IsHeld, Nothing, Shows, StandsThere, TellsMoved, flown, moving}
+use Rattle.snap_net.specs.Shown.{NetView, Simulates, IsNetView, Nothing, Represents, StandsThere, TellsMoved, flown, moving}
 use Rattle.snap_runs.specs.declared.frames.Frames.{Frames}
 use Rattle.snap_runs.specs.declared.frames.Frames.TheVariants.{Plain}
-use Rattle.snap_runs.specs.declared.event.Order.{Order}
-use Rattle.snap_runs.specs.declared.event.Order.TheVariants as order
+use Rattle.snap_runs.specs.declared.event.Instruction.{Instruction}
+use Rattle.snap_runs.specs.declared.event.Instruction.TheVariants as order
 use Rattle.snap_runs.specs.declared.play.Play.{Play}
 use Rattle.snap_runs.specs.declared.ready.Ready.{Ready}
 use Rattle.snap_runs.specs.declared.tally.Tally.{Tally}
 use Rattle.snap_runs.specs.Playing.{HasDone, HasNoted, HasObeyed, HasStepped, IsLong, IsPlaying, IsReady, NotesIn, Plays, left_in, packets_in}
 use Rattle.snap_runs.specs.Reports.{hops_text}
 use Rattle.snap_runs.specs.Schedules.{CantBeDone, Spells, nothing, order_by}
-use Rattle.snap_runs.specs.Tallies.{IsTally, IsThere, Notes, delivered_by, hop_told, line_after, line_of, lost_by, owner_by}
+use Rattle.snap_runs.specs.Tallies.{IsTally, IsThere, Notes, delivered_by, hop_told, line_after, line_of, lost_by, number_by}
 use Rattle.snap_runs.proofs.Blocks.{in_pushed}
 use Rattle.snap_net.proofs.Steps.{stands_there}
 use Rattle.snap_rows.proofs.Happenings.{deliveries_of-append, losses_of-append}
@@ -57,7 +57,7 @@ pub elsewhere : (n i : ℕ) (hs : List Happening) → n ≤ i → All (λ h. num
 elsewhere n i hs le all = All-weaker (λ h. number_of h < n) (λ h. number_of h ≢ i) (λ h less e. omega (arith, less, e, le)) hs all
 
 -- ---- before the first line
-pub plays-first : (t : Tables) (hops : Bool) (packets : List Ready) (v : Play) → v.net.tables ≡ t → v.hops ≡ hops → Shows v.net (start t zero_arrays) → v.tallies.items ≡ [] → v.waiting.items ≡ reverse packets → All (IsReady t) packets
+pub plays-first : (t : Tables) (hops : Bool) (packets : List Ready) (v : Play) → v.net.tables ≡ t → v.hops ≡ hops → Represents v.net (start t zero_arrays) → v.tallies.items ≡ [] → v.waiting.items ≡ reverse packets → All (IsReady t) packets
     → Plays t hops (packets_in packets) [] v
 plays-first t hops packets v tables same shows none waiting ready = record {
   tables = tables;
@@ -96,7 +96,7 @@ plays-skip line v e t hops ks lines p = record {
 }
 
 -- ---- the next packet is injected
-module _ (old new : Play) (r : Ready) (rest : List Ready) (y : Tally) (stood : old.waiting.items ≡ rest ++ r ∷ []) (left : new.waiting.items ≡ rest) (does : IsDone old.net (Inject r.port r.packet) new.net Nothing)
+module _ (old new : Play) (r : Ready) (rest : List Ready) (y : Tally) (stood : old.waiting.items ≡ rest ++ r ∷ []) (left : new.waiting.items ≡ rest) (does : Simulates old.net (Inject r.port r.packet) new.net Nothing)
     (same : new.net.tables ≡ old.net.tables) (same_hops : new.hops ≡ old.hops) (more : new.tallies.items ≡ old.tallies.items ++ y ∷ []) (d : y.delivered.items ≡ []) (l : y.lost ≡ 0) (h : y.hops.items ≡ []) where
   next : left_in old ≡ r.packet ∷ left_in new
   next = ap (λ ws. packets_in (reverse ws)) stood ∙ ap packets_in (reverse-append rest (r ∷ [])) ∙ ap (λ ws. r.packet ∷ packets_in (reverse ws)) (sym left)
@@ -104,7 +104,7 @@ module _ (old new : Play) (r : Ready) (rest : List Ready) (y : Tally) (stood : o
   pub plays-inject : HasObeyed order.Inject old new true
   plays-inject t hops ks lines line e p =
       let n = p.state.injected in
-      let a = subst (λ t'. (s' : Net) × (hs : List Happening) × Leads t' p.state (Inject r.port r.packet) s' hs × Shows new.net s' × (hs ≡ [])) p.tables (does p.state p.shows) in
+      let a = subst (λ t'. (s' : Net) × (hs : List Happening) × Leads t' p.state (Inject r.port r.packet) s' hs × Represents new.net s' × (hs ≡ [])) p.tables (does p.state p.shows) in
       let numbers = inject-numbers t p.state a.0 r.port r.packet a.1 p.below a.2 in
       let popped = All-pop (IsReady t) old.waiting.items rest (Some r) stood p.ready in
       let ran = subst (λ q. Runs t (start t zero_arrays) (p.obeys.events ++ Inject q r.packet ∷ []) a.0 (p.happenings ++ a.1)) (sym popped.1.first) (runs-then (Inject r.port r.packet) a.0 a.1 p.obeys.run a.2) in
@@ -136,12 +136,12 @@ module _ (old new : Play) (r : Ready) (rest : List Ready) (y : Tally) (stood : o
       long i z (inr k) = subst (IsLong (comps t)) k.1 (subst (All (λ x. length x ≡ comps t)) (sym d) (All-nil (λ x. length x ≡ comps t)))
 
 -- ---- a copy makes a step
-module _ (old new : Play) (place : ℕ) (held : IsHeld old.net) (does : HasStepped old.hops place old.net new.net old.tallies.items new.tallies.items) (same : new.net.tables ≡ old.net.tables) (same_hops : new.hops ≡ old.hops) (still : new.waiting.items ≡ old.waiting.items) where
+module _ (old new : Play) (place : ℕ) (held : IsNetView old.net) (does : HasStepped old.hops place old.net new.net old.tallies.items new.tallies.items) (same : new.net.tables ≡ old.net.tables) (same_hops : new.hops ≡ old.hops) (still : new.waiting.items ≡ old.waiting.items) where
   pub plays-step : HasObeyed (order.Step place) old new true
-  plays-step t hops ks lines line e p = go (subst (λ t'. (s' : Net) × (x : Happening) × Leads t' p.state (Step place) s' (x ∷ []) × Shows new.net s' × NotesIn Plain t' hops x old.tallies.items new.tallies.items) p.tables
-      (subst (λ b. (s' : Net) × (x : Happening) × Leads old.net.tables p.state (Step place) s' (x ∷ []) × Shows new.net s' × NotesIn Plain old.net.tables b x old.tallies.items new.tallies.items) p.hops_same (does p.state p.shows)))
+  plays-step t hops ks lines line e p = go (subst (λ t'. (s' : Net) × (x : Happening) × Leads t' p.state (Step place) s' (x ∷ []) × Represents new.net s' × NotesIn Plain t' hops x old.tallies.items new.tallies.items) p.tables
+      (subst (λ b. (s' : Net) × (x : Happening) × Leads old.net.tables p.state (Step place) s' (x ∷ []) × Represents new.net s' × NotesIn Plain old.net.tables b x old.tallies.items new.tallies.items) p.hops_same (does p.state p.shows)))
     where
-      go : (s' : Net) × (x : Happening) × Leads t p.state (Step place) s' (x ∷ []) × Shows new.net s' × NotesIn Plain t hops x old.tallies.items new.tallies.items → Plays t hops ks (lines ++ line ∷ []) new
+      go : (s' : Net) × (x : Happening) × Leads t p.state (Step place) s' (x ∷ []) × Represents new.net s' × NotesIn Plain t hops x old.tallies.items new.tallies.items → Plays t hops ks (lines ++ line ∷ []) new
       go a =
           let n = p.state.injected in
           let x = a.1 in
@@ -176,7 +176,7 @@ module _ (old new : Play) (place : ℕ) (held : IsHeld old.net) (does : HasStepp
               let other : i ≡ number_of x → ⊥ = λ g. false≢true (sym f ∙ eq-eqb i (number_of x) g) in
               tally_other Plain t hops i p.happenings (x ∷ []) z (All-cons (λ g. number_of g ≢ i) x [] (λ g. other (sym g)) (All-nil (λ g. number_of g ≢ i))) (p.tallied i z (sym (notes.others i other) ∙ is))
 
-          long : (a : (s' : Net) × (x : Happening) × Leads t p.state (Step place) s' (x ∷ []) × Shows new.net s' × NotesIn Plain t hops x old.tallies.items new.tallies.items) → (i : ℕ) (z : Tally) → slice_get new.tallies.items i ≡ Some z → (b : Bool) → (i == number_of a.1) ≡ b → IsLong (comps t) z
+          long : (a : (s' : Net) × (x : Happening) × Leads t p.state (Step place) s' (x ∷ []) × Represents new.net s' × NotesIn Plain t hops x old.tallies.items new.tallies.items) → (i : ℕ) (z : Tally) → slice_get new.tallies.items i ≡ Some z → (b : Bool) → (i == number_of a.1) ≡ b → IsLong (comps t) z
           long a i z is true f =
               let notes = a.4 in
               let at : i ≡ number_of a.1 = eqb-true i (number_of a.1) f in
@@ -196,10 +196,10 @@ playing-below v playing =
     subst (All P) p.shows.flying (All-map P flown p.state.flying (subst (λ n. All (λ (c : Copy). c.number < n) p.state.flying) (sym p.counted) p.below))
 
 -- ---- a step that is noted in its packet's tally
-pub owner_by-moving : (x : Happening) → owner_by (moving x) ≡ number_of x
-owner_by-moving (Crossed c to head) = refl
-owner_by-moving (Delivered c port) = refl
-owner_by-moving (Forked c copies lost) = refl
+pub number_by-moving : (x : Happening) → number_by (moving x) ≡ number_of x
+number_by-moving (Crossed c to head) = refl
+number_by-moving (Delivered c port) = refl
+number_by-moving (Forked c copies lost) = refl
 
 -- the line is that of the copy which stands there
 pub line-told : (f : Frames) (switches : List (List ℕ)) (cs : List Flying) (place : ℕ) (x : Happening) → StandsThere cs place x → line_after f switches cs place (moving x) ≡ hop_told f switches x
@@ -226,18 +226,18 @@ set-other (z ∷ zs) (suc i) zero y other = refl
 set-other (z ∷ zs) (suc i) (suc j) y other = set-other zs i j y (λ e. other (ap suc e))
 
 -- one tally of all was changed
-pub has-noted : (ys : List Tally) (owner : ℕ) (y y' : Tally) (lines : List ℕ) (m : Moved) → owner < length ys → y ≡ get_or ys owner y → owner ≡ owner_by m → y'.delivered.items ≡ y.delivered.items ++ delivered_by m → y'.lost ≡ y.lost + lost_by m
-    → y'.hops.items ≡ y.hops.items ++ lines → HasNoted lines m ys (set ys owner y')
-has-noted ys owner y y' lines m within is own d l told = record {
+pub has-noted : (ys : List Tally) (number : ℕ) (y y' : Tally) (lines : List ℕ) (m : Moved) → number < length ys → y ≡ get_or ys number y → number ≡ number_by m → y'.delivered.items ≡ y.delivered.items ++ delivered_by m → y'.lost ≡ y.lost + lost_by m
+    → y'.hops.items ≡ y.hops.items ++ lines → HasNoted lines m ys (set ys number y')
+has-noted ys number y y' lines m within is own d l told = record {
   before = y;
   after = y';
-  is = subst (λ i. slice_get ys i ≡ Some y) own (slice_get_read ys (length ys) owner y refl within is);
+  is = subst (λ i. slice_get ys i ≡ Some y) own (slice_get_read ys (length ys) number y refl within is);
   delivered = d;
   lost = l;
   hops_told = told;
-  count = length-set ys owner y';
-  here = subst (λ i. slice_get (set ys owner y') i ≡ Some y') own (set-same ys owner y' within);
-  others = λ i other. set-other ys owner i y' (λ e. other (e ∙ own));
+  count = length-set ys number y';
+  here = subst (λ i. slice_get (set ys number y') i ≡ Some y') own (set-same ys number y' within);
+  others = λ i other. set-other ys number i y' (λ e. other (e ∙ own));
 }
 
 -- what was noted of a step is what happened
@@ -246,7 +246,7 @@ notes-of f t hops cs place x ys zs there n = record { delivered = n.delivered; l
 
 notes-in : (f : Frames) (t : Tables) (hops : Bool) (cs : List Flying) (place : ℕ) (x : Happening) (ys zs : List Tally) → StandsThere cs place x → HasNoted (if hops then line_after f t.switches cs place (moving x) else []) (moving x) ys zs → NotesIn f t hops x ys zs
 notes-in f t hops cs place x ys zs there n =
-    let own = owner_by-moving x in
+    let own = number_by-moving x in
     record {
       before = n.before;
       after = n.after;
@@ -257,12 +257,12 @@ notes-in f t hops cs place x ys zs there n =
       others = λ i other. n.others i (λ e. other (e ∙ own));
     }
 
-module _ (place : ℕ) (old new : Held) where
+module _ (place : ℕ) (old new : NetView) where
   -- a copy that crossed a link stands at the place, as the network shows it
-  pub stands : (s s' : Net) (hs : List Happening) (x : Happening) → Leads old.tables s (Step place) s' hs → hs ≡ x ∷ [] → Shows new s' → StandsThere new.flying place x
+  pub stands : (s s' : Net) (hs : List Happening) (x : Happening) → Leads old.tables s (Step place) s' hs → hs ≡ x ∷ [] → Represents new s' → StandsThere new.flying place x
   stands s s' hs x leads one shows = subst (λ cs. StandsThere cs place x) shows.flying (stands_there x leads one)
 
-  pub step-noted : (m : Moved) (hops : Bool) (ys zs : List Tally) → new.tables ≡ old.tables → IsDone old (Step place) new (TellsMoved m) → HasNoted (if hops then line_after Plain new.tables.switches new.flying place m else []) m ys zs
+  pub step-noted : (m : Moved) (hops : Bool) (ys zs : List Tally) → new.tables ≡ old.tables → Simulates old (Step place) new (TellsMoved m) → HasNoted (if hops then line_after Plain new.tables.switches new.flying place m else []) m ys zs
       → HasStepped hops place old new ys zs
   step-noted m hops ys zs same does noted s shows =
       let a = does s shows in
@@ -277,21 +277,21 @@ module _ (place : ℕ) (old new : Held) where
       )
 
 -- the packet whose copy steps has a tally
-module _ (place n : ℕ) (old new : Held) (below : All (λ (c : Flying). c.number < n) old.flying) where
+module _ (place n : ℕ) (old new : NetView) (below : All (λ (c : Flying). c.number < n) old.flying) where
   step_below : (s' : Net) (hs : List Happening) (x : Happening) → Leads old.tables (shown old).0 (Step place) s' hs → hs ≡ x ∷ [] → number_of x < n
   step_below s' hs x leads e = All-head (λ h. number_of h < n) x [] (subst (All (λ h. number_of h < n)) e (step-numbers (λ m. m < n) old.tables (shown old).0 s' place hs (held-shown (λ c. c.number < n) old (shown old).0 (shown old).1 below) leads).1)
 
-  pub mover-below : (m : Moved) → IsDone old (Step place) new (TellsMoved m) → owner_by m < n
+  pub mover-below : (m : Moved) → Simulates old (Step place) new (TellsMoved m) → number_by m < n
   mover-below m does =
       let a = does (shown old).0 (shown old).1 in
-      subst (λ i. i < n) (sym (ap owner_by a.4.2 ∙ owner_by-moving a.4.0)) (step_below a.0 a.1 a.4.0 a.2 a.4.1)
+      subst (λ i. i < n) (sym (ap number_by a.4.2 ∙ number_by-moving a.4.0)) (step_below a.0 a.1 a.4.0 a.2 a.4.1)
 
-  pub mover-there : (m : Moved) → IsDone old (Step place) new (TellsMoved m) → IsThere new.flying place m
+  pub mover-there : (m : Moved) → Simulates old (Step place) new (TellsMoved m) → IsThere new.flying place m
   mover-there m does =
       let a = does (shown old).0 (shown old).1 in
       subst (IsThere new.flying place) (sym a.4.2) (is-there new.flying place a.4.0 (stands place old new (shown old).0 a.0 a.1 a.4.0 a.2 a.4.1 a.3))
 
 -- what a line orders was done, or can't be done
-pub obeyed-done : (order : Order) (line : List ℕ) (old new : Play) → order_by line ≡ Some order → (b : Bool) → HasObeyed order old new b → HasDone line old new b
+pub obeyed-done : (order : Instruction) (line : List ℕ) (old new : Play) → order_by line ≡ Some order → (b : Bool) → HasObeyed order old new b → HasDone line old new b
 obeyed-done order line old new e true h = λ t hops ks lines p. h t hops ks lines line e p
 obeyed-done order line old new e false h = λ t hops ks lines p. subst (λ o. CantBeDone o (left_in old) p.state) (sym e) (h t hops ks lines p)

@@ -7,17 +7,17 @@ use Rattle.std.proofs.lemmas.List.Elements.{All-push}
 use Rattle.snap_rows.specs.declared.tables.Tables.{Tables}
 use Rattle.snap_rows.specs.Entries.{port_at}
 use Rattle.snap_rows.specs.Form.{comps}
-use Rattle.snap_trace.specs.declared.fault.TraceFault.{TraceFault}
-use Rattle.snap_trace.specs.declared.fault.TraceFault.TheVariants.{Read, Write, Limit, Packets, Undefined, NoMemory}
-use Rattle.snap_trace.specs.declared.line.Line.{Line}
-use Rattle.snap_trace.specs.declared.line.Line.TheVariants.{Skip, Inject}
-use Rattle.snap_trace.specs.PacketLines.{inject, bad}
-use Rattle.snap_trace.specs.Spelled.{Spelled, ended, refused, stops, with_said}
-use Rattle.snap_trace.specs.declared.packets.PacketLines.{PacketLines}
+use Rattle.snap_report.specs.declared.fault.TraceFault.{TraceFault}
+use Rattle.snap_report.specs.declared.fault.TraceFault.TheVariants.{Read, Write, Limit, Packets, Undefined, NoMemory}
+use Rattle.snap_report.specs.declared.line.Line.{Line}
+use Rattle.snap_report.specs.declared.line.Line.TheVariants.{Skip, Inject}
+use Rattle.snap_report.specs.PacketLines.{inject, bad}
+use Rattle.snap_report.specs.Spelled.{Spelled, ended, refused, stops, with_said}
+use Rattle.snap_report.specs.declared.packets.PacketLines.{PacketLines}
 use Rattle.snap_runs.specs.declared.ready.Ready.{Ready}
 use Rattle.snap_runs.specs.Plain.{at_ports, spelled_for}
 use Rattle.snap_runs.specs.Playing.{AreAll, AreBefore, HasRead, IsReady, TakesLine, packets_in}
-use Rattle.snap_trace.specs.Reading.{FitsLine, packet_in, said_of}
+use Rattle.snap_report.specs.Reading.{FitsLine, packet_in, said_of}
 use Rattle.snap_runs.specs.Reading.{GivesLine, left_of, said_at}
 
 -- these packets were read, and this is left

@@ -3,14 +3,14 @@ use Rattle.std.proofs.Common.{◌≡◌, ℕ, ◌+◌, ◌-◌, Bool, List, Opti
 use Rattle.snap_core.specs.declared.program.Field.{Field}
 use Rattle.snap_io.specs.LineReaders.{lines_given}
 use Rattle.snap_rows.specs.declared.tables.Tables.{Tables}
-use Rattle.snap_trace.specs.declared.fault.TraceFault.{TraceFault}
-use Rattle.snap_trace.specs.declared.fault.TraceFault.TheVariants.{Read, Write, Limit, Packets, Undefined, NoMemory}
-use Rattle.snap_trace.specs.declared.line.Line.{Line}
-use Rattle.snap_trace.specs.declared.packets.PacketLines.{PacketLines}
-use Rattle.snap_trace.specs.PacketLines.{Said, skip, inject, bad, said_by}
-use Rattle.snap_trace.specs.Reading.{LeavesLine, left_for, packet_in, said_of, spelled_where, where_accepted}
-use Rattle.snap_trace.specs.Spelled.{counted, spelled_from, with_said}
-use Rattle.snap_trace.proofs.Readers.{spelled_behind-const}
+use Rattle.snap_report.specs.declared.fault.TraceFault.{TraceFault}
+use Rattle.snap_report.specs.declared.fault.TraceFault.TheVariants.{Read, Write, Limit, Packets, Undefined, NoMemory}
+use Rattle.snap_report.specs.declared.line.Line.{Line}
+use Rattle.snap_report.specs.declared.packets.PacketLines.{PacketLines}
+use Rattle.snap_report.specs.PacketLines.{Said, skip, inject, bad, said_by}
+use Rattle.snap_report.specs.Reading.{LeavesLine, left_for, packet_in, said_of, spelled_where, where_accepted}
+use Rattle.snap_report.specs.Spelled.{counted, spelled_from, with_said}
+use Rattle.snap_report.proofs.Readers.{spelled_behind-const}
 use Rattle.snap_runs.specs.Plain.{at_ports, spelled_for}
 use Rattle.snap_runs.specs.Reading.{GivesLine, has_port, left_of, said_at}
 

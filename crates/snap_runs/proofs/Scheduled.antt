@@ -2,7 +2,7 @@
 use Rattle.std.proofs.Common.{◌≡◌, ℕ, ◌≤◌, Bool, List, Option, Ok, Err, refl, sym, ap, subst}
 use Rattle.std.specs.Prelude.{Result, MatchResult, length}
 use Rattle.snap_rows.specs.declared.tables.Tables.{Tables}
-use Rattle.snap_trace.specs.Spelled.{Spelled}
+use Rattle.snap_report.specs.Spelled.{Spelled}
 use Rattle.snap_runs.specs.declared.ready.Ready.{Ready}
 use Rattle.snap_runs.specs.declared.schedule.ScheduleFault.{ScheduleFault}
 use Rattle.snap_runs.specs.declared.schedule.ScheduleFault.TheVariants.{Packets, Read, TooLong, Line, Write, NoMemory}

@@ -19,9 +19,9 @@ use Rattle.snap_core.specs.Arrays.{has}
 use Rattle.snap_io.specs.Lines.{Next, next_line, no_line, long_line, many_bytes, next_in}
 use Rattle.snap_rows.specs.declared.tables.Tables.{Tables}
 use Rattle.snap_rows.specs.Entries.{port_at}
-use Rattle.snap_trace.specs.PacketLines.{Said, skip, inject, bad, Draft, plain_or, plain_value, both_numbers, split_or, split_value, with_number, with_value, with_parts, with_word, with_words, is_port, draft_at_first, packet_at, packet_of_words, said_or_bad, said_by_words, said_by, words_of, without_return}
-use Rattle.snap_trace.specs.declared.fault.TraceFault.TheVariants.{Packets}
-use Rattle.snap_trace.specs.Spelled.{ended, refused, spelled, Spelled, with_said, with_next, after_last, spelled_from}
+use Rattle.snap_report.specs.PacketLines.{Said, skip, inject, bad, Draft, plain_or, plain_value, both_numbers, split_or, split_value, with_number, with_value, with_parts, with_word, with_words, is_port, draft_at_first, packet_at, packet_of_words, said_or_bad, said_by_words, said_by, words_of, without_return}
+use Rattle.snap_report.specs.declared.fault.TraceFault.TheVariants.{Packets}
+use Rattle.snap_report.specs.Spelled.{ended, refused, spelled, Spelled, with_said, with_next, after_last, spelled_from}
 use Rattle.snap_runs.specs.Plain.{at_ports, spelled_for}
 
 -- ---- numbers

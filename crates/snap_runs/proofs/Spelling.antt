@@ -2,7 +2,7 @@
 use Rattle.std.proofs.Common.{◌≡◌, ℕ, List, [], ◌∷◌, ◌++◌, Some, sym, subst}
 use Rattle.std.specs.Prelude.{slice_index}
 use Rattle.snap_rows.specs.Network.{Event, Inject, Step}
-use Rattle.snap_runs.specs.declared.event.Order.TheVariants as order
+use Rattle.snap_runs.specs.declared.event.Instruction.TheVariants as order
 use Rattle.snap_runs.specs.Schedules.{Spells, nothing, skips, injects, steps, order_by}
 
 pub spells-skip : {lines ks left : List (List ℕ)} {es : List Event} (line : List ℕ) → order_by line ≡ Some order.Skip → Spells lines ks es left → Spells (lines ++ line ∷ []) ks es left

@@ -9,7 +9,7 @@ use Rattle.snap_rows.specs.declared.head.Sent.{Sent}
 use Rattle.snap_rows.specs.Network.{Copy, Net, Inject, Step, Happening, Leads, inject, step, happening, moved}
 use Rattle.snap_rows.proofs.Rows.{All-get}
 use Rattle.snap_net.specs.declared.flying.Flying.{Flying}
-use Rattle.snap_net.specs.Shown.{Held, Shows, flown, moving, store_of}
+use Rattle.snap_net.specs.Shown.{NetView, Represents, flown, moving, store_of}
 use Rattle.snap_net.proofs.Carried.{rests_shown}
 use Rattle.snap_rows.specs.Happenings.{number_of}
 use Rattle.snap_runs.specs.Tallies.{delivered_by}
@@ -55,7 +55,7 @@ unfolding copied
 flown_copied [] = refl
 flown_copied (c ∷ cs) = ap (λ l. c ∷ l) (flown_copied cs)
 
-pub shown : (v : Held) → (s : Net) × Shows v s
+pub shown : (v : NetView) → (s : Net) × Represents v s
 shown v = (record { stores = store_of v.stores; injected = v.injected; flying = map copied v.flying }, record { stores = λ w. refl; injected = refl; flying = flown_copied v.flying })
 
 -- what holds of the copies that are held holds of those that are shown
@@ -63,11 +63,11 @@ all_shown : (P : Flying → Type 0) (cs : List Copy) → All P (map flown cs) �
 all_shown P [] all = All-nil (λ c. P (flown c))
 all_shown P (c ∷ cs) all = All-cons (λ c. P (flown c)) c cs (All-head P (flown c) (map flown cs) all) (all_shown P cs (All-tail P (flown c) (map flown cs) all))
 
-pub held-shown : (P : Flying → Type 0) (v : Held) (s : Net) → Shows v s → All P v.flying → All (λ c. P (flown c)) s.flying
+pub held-shown : (P : Flying → Type 0) (v : NetView) (s : Net) → Represents v s → All P v.flying → All (λ c. P (flown c)) s.flying
 held-shown P v s shows all = all_shown P s.flying (subst (All P) (sym shows.flying) all)
 
 -- nothing is in flight where nothing is held
-pub rests-shown : (v : Held) (s : Net) → Shows v s → v.flying ≡ [] → s.flying ≡ []
+pub rests-shown : (v : NetView) (s : Net) → Represents v s → v.flying ≡ [] → s.flying ≡ []
 rests-shown v s shows none = rests_shown s.flying (shows.flying ∙ none)
 
 -- ---- lengths of packets

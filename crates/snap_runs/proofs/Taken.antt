@@ -4,8 +4,8 @@ use Rattle.std.specs.Prelude.{IsPermutation}
 use Rattle.snap_rows.specs.declared.tables.Tables.{Tables}
 use Rattle.snap_rows.specs.Network.{Net, Happening}
 use Rattle.snap_net.specs.Passing.{IsHeard, Passes, crossings}
-use Rattle.snap_net.specs.Shown.{Held, Shows}
-use Rattle.snap_trace.specs.Reports.{out_lines, lost_line}
+use Rattle.snap_net.specs.Shown.{NetView, Represents}
+use Rattle.snap_report.specs.Reports.{out_lines, lost_line}
 use Rattle.snap_runs.specs.declared.frames.Frames.{Frames}
 use Rattle.snap_runs.specs.declared.tally.Tally.{Tally}
 use Rattle.snap_runs.specs.Crossings.{SeesLines, crossing_lines}
@@ -14,7 +14,7 @@ use Rattle.snap_runs.specs.Tallies.{PutsBlock}
 use Rattle.snap_runs.specs.Tracing.{HasTaken, IsTraced}
 use Rattle.snap_runs.proofs.Passing.{hop_lines-crossings}
 
-pub passes-so : (port : ℕ) (k : List ℕ) (old new : Held) (told all : List Happening → Type 0) → ((hs : List Happening) → told hs → all hs) → Passes port k old new told → Passes port k old new all
+pub passes-so : (port : ℕ) (k : List ℕ) (old new : NetView) (told all : List Happening → Type 0) → ((hs : List Happening) → told hs → all hs) → Passes port k old new told → Passes port k old new all
 passes-so port k old new told all so passes s shows =
     let p = passes s shows in
     record {
@@ -40,8 +40,8 @@ module _ (f : Frames) (t : Tables) (i : ℕ) (sent : List (List ℕ)) (lost : �
   pub traced-bare : {V : Type 0} (saw : V → List Happening → V → Type 0) (a b : V) (y : Tally) → y.hops.items ≡ [] → IsHeard saw i a b sent lost hs → IsTraced f t false i y sent lost hs
   traced-bare saw a b y none heard = record { told = heard.told; lines = none }
 
-pub taken-passed : (f : Frames) (hops : Bool) (port : ℕ) (k : List ℕ) (old new : Held) (y : Tally) (sent : List (List ℕ)) (lost : ℕ) (before after : List ℕ) → Passes port k old new (IsTraced f old.tables hops old.injected y sent lost)
-    → PutsBlock old.tables.fields (old.injected + 1) y.hops.items sent lost before after → (s : Net) → Shows old s → HasTaken f old.tables hops port k s new before after
+pub taken-passed : (f : Frames) (hops : Bool) (port : ℕ) (k : List ℕ) (old new : NetView) (y : Tally) (sent : List (List ℕ)) (lost : ℕ) (before after : List ℕ) → Passes port k old new (IsTraced f old.tables hops old.injected y sent lost)
+    → PutsBlock old.tables.fields (old.injected + 1) y.hops.items sent lost before after → (s : Net) → Represents old s → HasTaken f old.tables hops port k s new before after
 taken-passed f hops port k old new y sent lost before after passes put s shows =
     let t = old.tables in
     let p = passes s shows in

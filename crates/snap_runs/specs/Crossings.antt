@@ -6,7 +6,7 @@ use Rattle.snap_rows.specs.declared.tables.Tables.{Tables}
 use Rattle.snap_rows.specs.declared.head.Head.{Head}
 use Rattle.snap_rows.specs.Network.{Happening}
 use Rattle.snap_rows.specs.Ways.{Way}
-use Rattle.snap_head.specs.Frames.{frame}
+use Rattle.snap_net.specs.Frames.{frame}
 use Rattle.snap_runs.specs.declared.frames.Frames.{Frames}
 use Rattle.snap_runs.specs.declared.tally.Tally.{Tally}
 use Rattle.snap_runs.specs.Reports.{lead_of}

@@ -8,3 +8,8 @@ pub mod Schedules
 pub mod Playing
 pub mod Crossings
 pub mod Links
+pub mod ChangeLines
+pub mod Shapes
+pub mod Changing
+pub mod ChangedFiles
+pub mod Moving

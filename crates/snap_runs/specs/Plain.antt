@@ -7,10 +7,10 @@ use Rattle.snap_io.specs.Sinks.{AppendsSome}
 use Rattle.snap_rows.specs.declared.tables.Tables.{Tables}
 use Rattle.snap_rows.specs.Entries.{port_at}
 use Rattle.snap_rows.specs.Network.{Event, Happening, IsPlainRun, Net}
-use Rattle.snap_trace.specs.declared.fault.TraceFault.TheVariants.{Read, Write, Undefined, NoMemory}
-use Rattle.snap_trace.specs.OneSwitch.{RunEnding}
-use Rattle.snap_trace.specs.PacketLines.{Said, skip, inject, bad, said_by}
-use Rattle.snap_trace.specs.Spelled.{Spelled, Stop, ended, refused, spelled_by}
+use Rattle.snap_report.specs.declared.fault.TraceFault.TheVariants.{Read, Write, Undefined, NoMemory}
+use Rattle.snap_report.specs.OneSwitch.{RunEnding}
+use Rattle.snap_report.specs.PacketLines.{Said, skip, inject, bad, said_by}
+use Rattle.snap_report.specs.Spelled.{Spelled, Stop, ended, refused, spelled_by}
 use Rattle.snap_runs.specs.declared.frames.Frames.{Frames}
 use Rattle.snap_runs.specs.declared.frames.Frames.TheVariants as frames
 use Rattle.snap_runs.specs.Reports.{AreBlocksBy, IsRunReportBy}

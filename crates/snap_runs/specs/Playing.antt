@@ -10,8 +10,8 @@ use Rattle.snap_rows.specs.Entries.{port_at}
 use Rattle.snap_rows.specs.Form.{comps}
 use Rattle.snap_rows.specs.Network.{Copy, Net, Happening, Leads, Step}
 use Rattle.snap_net.specs.declared.happened.Moved.{Moved}
-use Rattle.snap_net.specs.Shown.{Held, Shows}
-use Rattle.snap_runs.specs.declared.event.Order.{Order}
+use Rattle.snap_net.specs.Shown.{NetView, Represents}
+use Rattle.snap_runs.specs.declared.event.Instruction.{Instruction}
 use Rattle.snap_runs.specs.declared.frames.Frames.{Frames}
 use Rattle.snap_runs.specs.declared.frames.Frames.TheVariants.{Plain}
 use Rattle.snap_runs.specs.declared.play.Play.{Play}
@@ -20,15 +20,15 @@ use Rattle.snap_runs.specs.declared.schedule.Orders.{Orders}
 use Rattle.snap_runs.specs.declared.schedule.ScheduleFault.{ScheduleFault}
 use Rattle.snap_runs.specs.declared.schedule.ScheduleFault.TheVariants.{Packets, Read, TooLong, Line, Write, NoMemory}
 use Rattle.snap_runs.specs.declared.tally.Tally.{Tally}
-use Rattle.snap_trace.specs.declared.fault.TraceFault.{TraceFault}
-use Rattle.snap_trace.specs.declared.fault.TraceFault.TheVariants as trace
-use Rattle.snap_trace.specs.declared.line.Line.{Line as Read_line}
-use Rattle.snap_trace.specs.declared.line.Line.TheVariants as read
-use Rattle.snap_trace.specs.Spelled.{ended, refused}
+use Rattle.snap_report.specs.declared.fault.TraceFault.{TraceFault}
+use Rattle.snap_report.specs.declared.fault.TraceFault.TheVariants as trace
+use Rattle.snap_report.specs.declared.line.Line.{Line as Read_line}
+use Rattle.snap_report.specs.declared.line.Line.TheVariants as read
+use Rattle.snap_report.specs.Spelled.{ended, refused}
 use Rattle.snap_runs.specs.Plain.{spelled_for}
 use Rattle.snap_runs.specs.Schedules.{CantBeDone, HasScheduleReport, IsReadWhole, IsScheduleReport, Obeys, RefusesLine, RefusesPackets, RefusesScheduleLine, lines_of, order_by}
 use Rattle.snap_rows.specs.Happenings.{number_of}
-use Rattle.snap_runs.specs.Tallies.{IsBlockText, IsTally, Notes, delivered_by, lost_by, owner_by}
+use Rattle.snap_runs.specs.Tallies.{IsBlockText, IsTally, Notes, delivered_by, lost_by, number_by}
 
 abbrev pub packets_in : List Ready → List (List ℕ)
 packets_in rs = map (λ (r : Ready). r.packet) rs
@@ -55,7 +55,7 @@ pub record Plays (t : Tables) (hops : Bool) (ks lines : List (List ℕ)) (v : Pl
   pub state : Net
   pub happenings : List Happening
   pub obeys : Obeys t ks lines (left_in v) state happenings
-  pub shows : Shows v.net state
+  pub shows : Represents v.net state
   pub counted : length v.tallies.items ≡ state.injected
   pub below : All (λ (c : Copy). c.number < state.injected) state.flying
   pub before : All (λ h. number_of h < state.injected) happenings
@@ -68,7 +68,7 @@ abbrev pub IsPlaying : Play → Type 0
 IsPlaying v = (ks : List (List ℕ)) × (lines : List (List ℕ)) × Plays v.net.tables v.hops ks lines v
 
 -- a line that orders this was done, or it can't be done
-abbrev pub HasObeyed : Order → (old new : Play) → Bool → Type 0
+abbrev pub HasObeyed : Instruction → (old new : Play) → Bool → Type 0
 HasObeyed order old new true =
     (t : Tables) (hops : Bool) (ks lines : List (List ℕ)) (line : List ℕ)
     → order_by line ≡ Some order → Plays t hops ks lines old → Plays t hops ks (lines ++ line ∷ []) new
@@ -86,13 +86,13 @@ HasDone line old new false = (t : Tables) (hops : Bool) (ks lines : List (List �
 pub record HasNoted (lines : List ℕ) (m : Moved) (old new : List Tally) : Type 0 where
   pub before : Tally
   pub after : Tally
-  pub is : slice_get old (owner_by m) ≡ Some before
+  pub is : slice_get old (number_by m) ≡ Some before
   pub delivered : after.delivered.items ≡ before.delivered.items ++ delivered_by m
   pub lost : after.lost ≡ before.lost + lost_by m
   pub hops_told : after.hops.items ≡ before.hops.items ++ lines
   pub count : length new ≡ length old
-  pub here : slice_get new (owner_by m) ≡ Some after
-  pub others : (i : ℕ) → (i ≡ owner_by m → ⊥) → slice_get new i ≡ slice_get old i
+  pub here : slice_get new (number_by m) ≡ Some after
+  pub others : (i : ℕ) → (i ≡ number_by m → ⊥) → slice_get new i ≡ slice_get old i
 
 -- copy k has made a step, which was noted in its packet's tally
 pub record NotesIn (f : Frames) (t : Tables) (hops : Bool) (x : Happening) (old new : List Tally) : Type 0 where
@@ -104,9 +104,9 @@ pub record NotesIn (f : Frames) (t : Tables) (hops : Bool) (x : Happening) (old 
   pub here : slice_get new (number_of x) ≡ Some after
   pub others : (i : ℕ) → (i ≡ number_of x → ⊥) → slice_get new i ≡ slice_get old i
 
-abbrev pub HasStepped : Bool → ℕ → (old new : Held) → (before after : List Tally) → Type 0
-HasStepped hops k old new before after = (s : Net) → Shows old s → (s' : Net) × (x : Happening)
-    × Leads old.tables s (Step k) s' (x ∷ []) × Shows new s' × NotesIn Plain old.tables hops x before after
+abbrev pub HasStepped : Bool → ℕ → (old new : NetView) → (before after : List Tally) → Type 0
+HasStepped hops k old new before after = (s : Net) → Represents old s → (s' : Net) × (x : Happening)
+    × Leads old.tables s (Step k) s' (x ∷ []) × Represents new s' × NotesIn Plain old.tables hops x before after
 
 -- no line was done yet
 abbrev pub IsFresh : Play → Type 0

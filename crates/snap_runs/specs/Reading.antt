@@ -4,13 +4,13 @@ use Rattle.std.specs.declared.option.Option.{Option}
 use Rattle.snap_io.specs.LineReaders.{lines_given}
 use Rattle.snap_rows.specs.declared.tables.Tables.{Tables}
 use Rattle.snap_rows.specs.Entries.{port_at}
-use Rattle.snap_trace.specs.declared.fault.TraceFault.{TraceFault}
-use Rattle.snap_trace.specs.declared.fault.TraceFault.TheVariants.{Read, Write, Limit, Packets, Undefined, NoMemory}
-use Rattle.snap_trace.specs.declared.line.Line.{Line}
-use Rattle.snap_trace.specs.declared.packets.PacketLines.{PacketLines}
-use Rattle.snap_trace.specs.PacketLines.{Said, said_by}
-use Rattle.snap_trace.specs.Reading.{packet_in, said_of}
-use Rattle.snap_trace.specs.Spelled.{Spelled, stops, ended, refused, spelled_from, with_said}
+use Rattle.snap_report.specs.declared.fault.TraceFault.{TraceFault}
+use Rattle.snap_report.specs.declared.fault.TraceFault.TheVariants.{Read, Write, Limit, Packets, Undefined, NoMemory}
+use Rattle.snap_report.specs.declared.line.Line.{Line}
+use Rattle.snap_report.specs.declared.packets.PacketLines.{PacketLines}
+use Rattle.snap_report.specs.PacketLines.{Said, said_by}
+use Rattle.snap_report.specs.Reading.{packet_in, said_of}
+use Rattle.snap_report.specs.Spelled.{Spelled, stops, ended, refused, spelled_from, with_said}
 use Rattle.snap_runs.specs.Plain.{at_ports}
 
 -- a packet comes in at a port of tables

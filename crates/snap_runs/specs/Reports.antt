@@ -12,10 +12,10 @@ use Rattle.snap_rows.specs.declared.tables.Tables.{Tables}
 use Rattle.snap_rows.specs.declared.head.Head.{Head}
 use Rattle.snap_rows.specs.declared.head.Sent.{Sent}
 use Rattle.snap_rows.specs.Happenings.{deliveries_of, losses_of}
-use Rattle.snap_rows.specs.Network.{Copy, Net, Happening, Crossed, Delivered, Forked, whole}
-use Rattle.snap_head.specs.Frames.{frame}
-use Rattle.snap_net.specs.Shown.{Held, Shows}
-use Rattle.snap_trace.specs.Reports.{out_lines, end_text, lost_line}
+use Rattle.snap_rows.specs.Network.{Copy, Net, Happening, Crossed, Delivered, Forked, global_store}
+use Rattle.snap_net.specs.Frames.{frame}
+use Rattle.snap_net.specs.Shown.{NetView, Represents}
+use Rattle.snap_report.specs.Reports.{out_lines, end_text, lost_line}
 use Rattle.snap_runs.specs.declared.frames.Frames.{Frames}
 use Rattle.snap_runs.specs.declared.frames.Frames.TheVariants.{Plain, Numbered}
 
@@ -76,7 +76,7 @@ pub record IsRunReportBy (f : Frames) (t : Tables) (hops : Bool) (count : ℕ) (
   pub blocks : List ℕ
   pub are : AreBlocksBy f t hops count hs blocks
   pub entries : List Entry
-  pub listed : IsListing (whole t s) entries
+  pub listed : IsListing (global_store t s) entries
   pub is : text ≡ blocks ++ end_text (array_names t) entries
 
 -- the same with frames as they are
@@ -90,6 +90,6 @@ abbrev pub IsRunReport : Tables → (hops : Bool) → (count : ℕ) → Net → 
 IsRunReport t hops count s hs text = IsRunReportBy Plain t hops count s hs text
 
 -- the end of a network's report was put behind a text
-abbrev pub PutsEnd : Held → (before after : List ℕ) → Type 0
-PutsEnd v before after = (s : Net) → Shows v s → (entries : List Entry)
-    × IsListing (whole v.tables s) entries × (after ≡ before ++ end_text (array_names v.tables) entries)
+abbrev pub PutsEnd : NetView → (before after : List ℕ) → Type 0
+PutsEnd v before after = (s : Net) → Represents v s → (entries : List Entry)
+    × IsListing (global_store v.tables s) entries × (after ≡ before ++ end_text (array_names v.tables) entries)

@@ -8,12 +8,12 @@ use Rattle.snap_core.specs.Figures.{number_of, parts_at}
 use Rattle.snap_io.specs.Sinks.{AppendsSome}
 use Rattle.snap_rows.specs.declared.tables.Tables.{Tables}
 use Rattle.snap_rows.specs.Network.{Net, Event, Inject, Step, Happening, Leads, RunsBy, start}
-use Rattle.snap_trace.specs.PacketLines.{is_some_text, without_return, words_of}
-use Rattle.snap_trace.specs.declared.fault.TraceFault.{TraceFault}
-use Rattle.snap_trace.specs.declared.fault.TraceFault.TheVariants as trace
-use Rattle.snap_trace.specs.Spelled.{ended, refused}
-use Rattle.snap_runs.specs.declared.event.Order.{Order}
-use Rattle.snap_runs.specs.declared.event.Order.TheVariants as order
+use Rattle.snap_report.specs.PacketLines.{is_some_text, without_return, words_of}
+use Rattle.snap_report.specs.declared.fault.TraceFault.{TraceFault}
+use Rattle.snap_report.specs.declared.fault.TraceFault.TheVariants as trace
+use Rattle.snap_report.specs.Spelled.{ended, refused}
+use Rattle.snap_runs.specs.declared.event.Instruction.{Instruction}
+use Rattle.snap_runs.specs.declared.event.Instruction.TheVariants as order
 use Rattle.snap_runs.specs.declared.schedule.ScheduleFault.{ScheduleFault}
 use Rattle.snap_runs.specs.declared.schedule.ScheduleFault.TheVariants.{Packets, Read, TooLong, Line, Write, NoMemory}
 use Rattle.snap_runs.specs.Plain.{spelled_for}
@@ -31,20 +31,20 @@ abbrev pub lines_of : List ℕ → List (List ℕ)
 lines_of text = whole_lines (parts_at 10 text)
 
 -- `step K`, where no word stands behind
-abbrev pub step_order : (word figures : List ℕ) → (more : Bool) → Option Order
+abbrev pub step_order : (word figures : List ℕ) → (more : Bool) → Option Instruction
 step_order word figures more = if more || not (bytes_eq word (codes "step")) then None else option_map order.Step (number_of figures)
 
 abbrev pub is_some_list : List (List ℕ) → Bool
 is_some_list [] = false
 is_some_list (word ∷ words) = true
 
-abbrev pub order_of_words : List (List ℕ) → Option Order
+abbrev pub order_of_words : List (List ℕ) → Option Instruction
 order_of_words [] = Some order.Skip
 order_of_words (word ∷ []) = if bytes_eq word (codes "inject") then Some order.Inject else None
 order_of_words (word ∷ figures ∷ words) = step_order word figures (is_some_list words)
 
 -- what a line orders: nothing, where it has no words or its first byte is `#`; `inject`; or `step K`
-abbrev pub order_by : List ℕ → Option Order
+abbrev pub order_by : List ℕ → Option Instruction
 order_by [] = Some order.Skip
 order_by (b ∷ bs) = if b == 35 then Some order.Skip else order_of_words (words_of (without_return (b ∷ bs)))
 
@@ -73,7 +73,7 @@ abbrev pub Obeys : Tables → (ks lines left : List (List ℕ)) → Net → List
 Obeys t ks lines left s hs = ObeysBy (Leads t) (start t zero_arrays) ks lines left s hs
 
 -- what a line orders isn't in form, or can't be done
-abbrev pub CantBeDone : Option Order → (left : List (List ℕ)) → Net → Type 0
+abbrev pub CantBeDone : Option Instruction → (left : List (List ℕ)) → Net → Type 0
 CantBeDone None left s = Unit {0}
 CantBeDone (Some order.Skip) left s = ⊥
 CantBeDone (Some order.Inject) left s = left ≡ []
@@ -114,8 +114,8 @@ abbrev pub RefusesLine : Tables → (ks lines : List (List ℕ)) → (number : �
 RefusesLine t ks lines number = StopsAt t ks lines number ⊎ EndsEarly t ks lines number
 
 -- wherever a line injects a packet, the lines before it leave no copy in flight
-abbrev pub IsCalm : Tables → (ks lines : List (List ℕ)) → Type 0
-IsCalm t ks lines = (before behind : List (List ℕ)) (line : List ℕ) → lines ≡ before ++ line ∷ behind → order_by line ≡ Some order.Inject
+abbrev pub IsSequential : Tables → (ks lines : List (List ℕ)) → Type 0
+IsSequential t ks lines = (before behind : List (List ℕ)) (line : List ℕ) → lines ≡ before ++ line ∷ behind → order_by line ≡ Some order.Inject
     → (left : List (List ℕ)) (s : Net) (hs : List Happening) → Obeys t ks before left s hs → s.flying ≡ []
 
 -- the report of the run that the lines tell, after which nothing is left

@@ -8,43 +8,43 @@ use Rattle.snap_rows.specs.declared.tables.Tables.{Tables}
 use Rattle.snap_rows.specs.declared.head.Sent.{Sent}
 use Rattle.snap_rows.specs.Happenings.{losses_of}
 use Rattle.snap_rows.specs.Network.{Happening, Crossed, Delivered, Forked}
-use Rattle.snap_head.specs.Frames.{frame}
+use Rattle.snap_net.specs.Frames.{frame}
 use Rattle.snap_net.specs.declared.flying.Flying.{Flying}
 use Rattle.snap_net.specs.declared.happened.Moved.{Moved}
 use Rattle.snap_net.specs.declared.happened.Moved.TheVariants as bare
 use Rattle.snap_net.specs.Shown.{moving}
 use Rattle.snap_runs.specs.declared.frames.Frames.{Frames}
 use Rattle.snap_runs.specs.declared.tally.Tally.{Tally}
-use Rattle.snap_trace.specs.Reports.{out_lines, lost_line}
+use Rattle.snap_report.specs.Reports.{out_lines, lost_line}
 use Rattle.snap_runs.specs.Reports.{hops_text, lead_of, packet_line, packets_delivered}
 
 -- the packets that a step delivers
 abbrev pub delivered_by : Moved → List (List ℕ)
-delivered_by (bare.Forwarded owner from to) = []
-delivered_by (bare.Delivered owner port k) = k ∷ []
-delivered_by (bare.Forked owner copies lost) = []
-delivered_by (bare.Stayed owner rank) = []
-delivered_by (bare.Waited owner rank) = []
+delivered_by (bare.Forwarded number from to) = []
+delivered_by (bare.Delivered number port k) = k ∷ []
+delivered_by (bare.Forked number copies lost) = []
+delivered_by (bare.Stayed number rank) = []
+delivered_by (bare.Waited number rank) = []
 
 -- how many packets are lost in it
 abbrev pub lost_by : Moved → ℕ
-lost_by (bare.Forwarded owner from to) = 0
-lost_by (bare.Delivered owner port k) = 0
-lost_by (bare.Forked owner copies lost) = lost
-lost_by (bare.Stayed owner rank) = 0
-lost_by (bare.Waited owner rank) = 0
+lost_by (bare.Forwarded number from to) = 0
+lost_by (bare.Delivered number port k) = 0
+lost_by (bare.Forked number copies lost) = lost
+lost_by (bare.Stayed number rank) = 0
+lost_by (bare.Waited number rank) = 0
 
 -- the packets of copies on their way to ports
 abbrev pub packets_sent : List Sent → List (List ℕ)
 packets_sent copies = map (λ (x : Sent). x.packet) copies
 
 -- the number of the packet whose copy steps
-abbrev pub owner_by : Moved → ℕ
-owner_by (bare.Forwarded owner from to) = owner
-owner_by (bare.Delivered owner port k) = owner
-owner_by (bare.Forked owner copies lost) = owner
-owner_by (bare.Stayed owner rank) = owner
-owner_by (bare.Waited owner rank) = owner
+abbrev pub number_by : Moved → ℕ
+number_by (bare.Forwarded number from to) = number
+number_by (bare.Delivered number port k) = number
+number_by (bare.Forked number copies lost) = number
+number_by (bare.Stayed number rank) = number
+number_by (bare.Waited number rank) = number
 
 -- the name of the array or the switch with this number
 abbrev pub name_in : List (List ℕ) → ℕ → List ℕ
@@ -68,12 +68,12 @@ line_of f switches from (Some c) = hop_text switches from c.at (lead_of f c.numb
 
 -- the line of the link that the copy at a place has crossed, if its step crossed one
 abbrev pub line_after : Frames → List (List ℕ) → List Flying → ℕ → Moved → List ℕ
-line_after f switches cs place (bare.Forwarded owner from to) = line_of f switches from (slice_get cs place)
+line_after f switches cs place (bare.Forwarded number from to) = line_of f switches from (slice_get cs place)
 line_after f switches cs place _ = []
 
 -- one that crossed a link stands at a place
 abbrev pub IsThere : List Flying → ℕ → Moved → Type 0
-IsThere cs place (bare.Forwarded owner from to) = place < length cs
+IsThere cs place (bare.Forwarded number from to) = place < length cs
 IsThere cs place _ = Unit {0}
 
 -- what a step tells was noted, with its line where hops are told

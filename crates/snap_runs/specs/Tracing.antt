@@ -4,11 +4,11 @@ use Rattle.std.specs.List.{All}
 use Rattle.snap_core.specs.Arrays.{zero_arrays}
 use Rattle.snap_rows.specs.declared.tables.Tables.{Tables}
 use Rattle.snap_rows.specs.Entries.{port_at}
-use Rattle.snap_rows.specs.Network.{Net, Event, Inject, Happening, IsPlainRun, RunsCalmly, StepsFirst, packets_of, start, whole}
+use Rattle.snap_rows.specs.Network.{Net, Event, Inject, Happening, IsPlainRun, RunsSequentially, StepsFirst, packets_of, start, global_store}
 use Rattle.snap_net.specs.Passing.{IsTold}
-use Rattle.snap_net.specs.Shown.{Held, Shows}
-use Rattle.snap_trace.specs.declared.fault.TraceFault.TheVariants.{Read, Write, Limit, Packets, Undefined, NoMemory}
-use Rattle.snap_trace.specs.OneSwitch.{RunEnding}
+use Rattle.snap_net.specs.Shown.{NetView, Represents}
+use Rattle.snap_report.specs.declared.fault.TraceFault.TheVariants.{Read, Write, Limit, Packets, Undefined, NoMemory}
+use Rattle.snap_report.specs.OneSwitch.{RunEnding}
 use Rattle.snap_runs.specs.declared.frames.Frames.{Frames}
 use Rattle.snap_runs.specs.declared.tally.Tally.{Tally}
 use Rattle.snap_runs.specs.declared.tracer.Tracer.{Tracer}
@@ -18,7 +18,7 @@ use Rattle.snap_rows.specs.Happenings.{number_of}
 
 -- other tables come into force: nothing is in flight, the same number was injected, and the whole store is the same
 abbrev pub changed : (to from : Tables) → Net → Net
-changed to from s = record (start to (whole from s)) { injected = s.injected }
+changed to from s = record (start to (global_store from s)) { injected = s.injected }
 
 -- all of this happens to packet i
 abbrev pub HappenTo : ℕ → List Happening → Type 0
@@ -36,16 +36,16 @@ Traces old new sent lost hs = IsTraced old.frames old.net.tables old.hops old.ne
 
 -- a packet was injected with nothing in flight, all its copies have come to rest, and its block stands behind the text
 pub record HasTaken (f : Frames) (t : Tables) (hops : Bool) (port : ℕ)
-    (k : List ℕ) (s : Net) (new : Held) (before after : List ℕ) : Type 0 where
+    (k : List ℕ) (s : Net) (new : NetView) (before after : List ℕ) : Type 0 where
   pub events : List Event
   pub no_packets : packets_of events ≡ []
   pub first : All StepsFirst events
   pub state : Net
   pub happenings : List Happening
-  pub run : RunsCalmly t s (Inject port k ∷ events) state happenings
+  pub run : RunsSequentially t s (Inject port k ∷ events) state happenings
   pub rests : state.flying ≡ []
   pub injected : state.injected ≡ s.injected + 1
-  pub shows : Shows new state
+  pub shows : Represents new state
   pub happen : HappenTo s.injected happenings
   pub text : List ℕ
   pub block : IsBlockBy f t hops s.injected happenings text
@@ -54,7 +54,7 @@ pub record HasTaken (f : Frames) (t : Tables) (hops : Bool) (port : ℕ)
 -- a packet of the line with this number was taken
 abbrev pub TakesPacket : (line port : ℕ) → (k : List ℕ) → (old new : Tracer) → (before after : List ℕ) → RunEnding → Type 0
 TakesPacket line port k old new before after (Ok u) = IsSome (port_at old.net.tables port)
-    × ((s : Net) → Shows old.net s → s.flying ≡ [] → HasTaken old.frames old.net.tables old.hops port k s new.net before after)
+    × ((s : Net) → Represents old.net s → s.flying ≡ [] → HasTaken old.frames old.net.tables old.hops port k s new.net before after)
 TakesPacket line port k old new before after (Err (Packets l)) = (l ≡ line) × (port_at old.net.tables port ≡ None) × (after ≡ before)
 TakesPacket line port k old new before after (Err NoMemory) = Unit {0}
 TakesPacket line port k old new before after (Err Read) = ⊥
@@ -72,7 +72,7 @@ pub record Stands (first : Tracer) (packets : List (List ℕ)) (text : List ℕ)
   pub state : Net
   pub happenings : List Happening
   pub run : IsPlainRun first.net.tables zero_arrays (entering packets) events state happenings
-  pub shows : Shows tracer.net state
+  pub shows : Represents tracer.net state
   pub injected : state.injected ≡ length packets
   pub before : All (λ h. number_of h < length packets) happenings
   pub blocks : AreBlocksBy first.frames first.net.tables first.hops (length packets) happenings text

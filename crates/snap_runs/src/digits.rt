@@ -2,14 +2,14 @@
 
 ghost use Rattle.std.specs.Prelude.{◌≡◌, ◌<◌, ◌≤◌, ◌+◌, ◌*◌, ◌++◌, drop, length, slice_index, IfSome};
 ghost use Rattle.hex.specs.Hex.{encode_lower, lower_digits};
-ghost use Rattle.snap_head.specs.Frames.{head_bytes, packet_bytes};
+ghost use Rattle.snap_net.specs.Frames.{head_bytes, packet_bytes};
 ghost use Rattle.snap_runs.specs.Crossings.{bytes_of, digits_of};
 ghost use Rattle.snap_runs.specs.Reports.{lead_of};
 
 use crate::frames::Frames;
 use snap_core::packet::Packet;
+use snap_report::front::{put_byte_before, put_bytes_before};
 use snap_rows::head::Head;
-use snap_trace::front::{put_byte_before, put_bytes_before};
 
 // The most components of a packet whose frame is put together here.
 const MOST_COMPS: usize = 13;

@@ -5,11 +5,11 @@ ghost use Rattle.snap_runs.specs.Schedules.{lines_of, order_by, step_order};
 
 use snap_core::figures::number;
 use snap_core::parts::split_at_first;
-use snap_trace::words::{next_word, without_return};
+use snap_report::words::{next_word, without_return};
 
 /// What a line of a schedule orders.
 #[derive(Clone, Copy)]
-pub enum Order {
+pub enum Instruction {
     /// Nothing: the line has no words, or begins with `#`.
     Skip,
     /// The next packet of the packets file is injected.
@@ -19,31 +19,31 @@ pub enum Order {
 }
 
 /// What a line orders (`docs/FORMATS.md`, "Schedules"), or nothing where it isn't in form. The line has no LF.
-pub fn read_order(line: &[u8]) -> Option<Order>
+pub fn read_order(line: &[u8]) -> Option<Instruction>
     ensures { result ≡ order_by line.now }
 {
     if line.first() == Some(&b'#') {
-        return Some(Order::Skip);
+        return Some(Instruction::Skip);
     }
     let Some((word, rest)) = next_word(without_return(line)) else {
-        return Some(Order::Skip);
+        return Some(Instruction::Skip);
     };
     match next_word(rest) {
-        None if word == b"inject".as_slice() => Some(Order::Inject),
+        None if word == b"inject".as_slice() => Some(Instruction::Inject),
         None => None,
         Some((figures, behind)) => step_order(word, figures, next_word(behind).is_some()),
     }
 }
 
 // The order of a line with two words or more.
-fn step_order(word: &[u8], figures: &[u8], more: bool) -> Option<Order>
+fn step_order(word: &[u8], figures: &[u8], more: bool) -> Option<Instruction>
     ensures { result ≡ step_order word.now figures.now more }
 {
     if more || word != b"step".as_slice() {
         return None;
     }
     match number(figures) {
-        Some(place) => Some(Order::Step(place)),
+        Some(place) => Some(Instruction::Step(place)),
         None => None,
     }
 }

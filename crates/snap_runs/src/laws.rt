@@ -1,6 +1,6 @@
 //! Laws of runs over packets, and of their reports.
 
-ghost use Rattle.snap_runs.specs.Laws.{CalmSchedulesRunCalmly, PlainBlocksAreOne, PlainReportsAreOne, PlainRunsAreOne, RefusedLinesAreOne, RefusedLinesAreTold, ReportedOrRefused, RunBlocksAreOne, RunReportsAreOne, RunsReportWithoutHops, ScheduleReportsAreOne, ScheduledRunsAreOne, SchedulesKeepOrder, SpelledForIsSpelled, SpelledPacketsFit};
+ghost use Rattle.snap_runs.specs.Laws.{SequentialSchedulesRunSequentially, PlainBlocksAreOne, PlainReportsAreOne, PlainRunsAreOne, RefusedLinesAreOne, RefusedLinesAreTold, ReportedOrRefused, RunBlocksAreOne, RunReportsAreOne, RunsReportWithoutHops, ScheduleReportsAreOne, ScheduledRunsAreOne, SchedulesKeepOrder, SpelledForIsSpelled, SpelledPacketsFit};
 
 /// A run has one report, and its happenings have the same blocks.
 pub fn run_reports_are_one()
@@ -22,7 +22,7 @@ pub fn plain_reports_are_one()
 
 /// Where tables are in form, the run that a schedule's lines tell is one. So lines tell one report, or are refused at one
 /// line, and not both; and a call that writes their report tells of that line, and of no other.
-pub fn schedules_run_one_way()
+pub fn schedules_are_deterministic()
     ensures runs { ScheduledRunsAreOne }
     ensures reports { ScheduleReportsAreOne }
     ensures lines { RefusedLinesAreOne }
@@ -30,10 +30,10 @@ pub fn schedules_run_one_way()
     ensures told { RefusedLinesAreTold }
 {}
 
-/// A schedule that injects each packet with no copy in flight tells a calm run; and packets are injected in the order of
+/// A schedule that injects each packet with no copy in flight tells a sequential run; and packets are injected in the order of
 /// their file.
-pub fn calm_schedules_run_calmly()
-    ensures calm { CalmSchedulesRunCalmly }
+pub fn sequential_schedules_run_sequentially()
+    ensures sequential { SequentialSchedulesRunSequentially }
     ensures order { SchedulesKeepOrder }
 {}
 

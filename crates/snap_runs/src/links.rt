@@ -10,11 +10,11 @@ use crate::frames::{Frames, put_lead};
 use snap_core::NoMemory;
 use snap_core::lists::Names;
 use snap_core::packet::Packet;
-use snap_head::encode::encode;
+use snap_net::encode::encode;
+use snap_report::front::{put_byte_before, put_bytes_before};
+use snap_report::report::name_at;
 use snap_rows::head::Head;
 use snap_rows::valid::Valid;
-use snap_trace::front::{put_byte_before, put_bytes_before};
-use snap_trace::report::name_at;
 use std::alloc::Global;
 
 /// What stands behind the names in a line of a link: the digits of a frame, and the line's end. They stand at the end of a

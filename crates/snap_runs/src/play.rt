@@ -7,10 +7,10 @@ ghost use Rattle.snap_rows.specs.declared.tables.Tables.{Tables};
 ghost use Rattle.snap_runs.specs.Playing.{HasDone, HasNoted, HasObeyed, HasRun, HasStepped, IsFresh, IsLong, IsPlaying, IsReady, Plays, PutsBlocks, packets_in, Reports, IsReportOf};
 ghost use Rattle.snap_net.specs.declared.flying.Flying.{Flying};
 ghost use Rattle.snap_runs.specs.Schedules.{lines_of};
-ghost use Rattle.snap_runs.specs.Tallies.{IsThere, line_after, owner_by};
-ghost use Rattle.snap_runs.specs.declared.event.Order.TheVariants.{Inject as Injects, Step as Steps};
+ghost use Rattle.snap_runs.specs.Tallies.{IsThere, line_after, number_by};
+ghost use Rattle.snap_runs.specs.declared.event.Instruction.TheVariants.{Inject as Injects, Step as Steps};
 
-use crate::event::{Order, next_line, read_order};
+use crate::event::{Instruction, next_line, read_order};
 use crate::frames::Frames;
 use crate::ready::Ready;
 use crate::schedule::ScheduleFault;
@@ -127,9 +127,9 @@ impl Play {
     {
         match read_order(line) {
             None => Ok(false),
-            Some(Order::Skip) => Ok(true),
-            Some(Order::Inject) => self.inject(),
-            Some(Order::Step(place)) => self.step(place),
+            Some(Instruction::Skip) => Ok(true),
+            Some(Instruction::Inject) => self.inject(),
+            Some(Instruction::Step(place)) => self.step(place),
         }
     }
 
@@ -187,7 +187,7 @@ fn put_each(out: &mut Vec<u8>, fields: &Fields, tallies: &mut Vec<Tally>) -> Res
     requires few { length tallies.old.items ≤ 67108864 }
     ensures { OnOk result (PutsBlocks fields.now tallies.old.items out.old.items out.new.items) }
 {
-    turn(tallies);
+    reverse_tallies(tallies);
     let mut number = 0u64;
     while let Some(mut tally) = next_tally(tallies) {
         number += 1;
@@ -206,12 +206,12 @@ pub fn note_step(
     place: usize,
     moved: Moved,
 ) -> Result<(), NoMemory>
-    requires owner { owner_by moved < length tallies.old.items }
+    requires number { number_by moved < length tallies.old.items }
     requires there { IsThere net.now.flying place moved }
     ensures { OnOk result (HasNoted (if hops then line_after frames net.now.tables.switches net.now.flying place moved else []) moved tallies.old.items tallies.new.items) }
 {
-    let owner = owner_of(&moved);
-    let tally = &mut tallies[owner as usize];
+    let number = number_of(&moved);
+    let tally = &mut tallies[number as usize];
     if hops {
         tally.note_hop(frames, net, place, moved)
     } else {
@@ -250,7 +250,7 @@ pub fn reversed(mut packets: Vec<Ready>) -> Vec<Ready>
 }
 
 // Turns the tallies, so that the first one stands last.
-fn turn(tallies: &mut Vec<Tally>)
+fn reverse_tallies(tallies: &mut Vec<Tally>)
     ensures { tallies.new.items ≡ reverse tallies.old.items }
 {
     tallies.reverse();
@@ -271,14 +271,14 @@ pub fn next_packet(waiting: &mut Vec<Ready>) -> Option<Ready>
 }
 
 // The number of the packet whose copy has made a step.
-fn owner_of(moved: &Moved) -> u64
-    ensures { result ≡ owner_by moved.now }
+fn number_of(moved: &Moved) -> u64
+    ensures { result ≡ number_by moved.now }
 {
     match moved {
-        Moved::Forwarded { owner, .. } => *owner,
-        Moved::Delivered { owner, .. } => *owner,
-        Moved::Forked { owner, .. } => *owner,
-        Moved::Stayed { owner, .. } => *owner,
-        Moved::Waited { owner, .. } => *owner,
+        Moved::Forwarded { number, .. } => *number,
+        Moved::Delivered { number, .. } => *number,
+        Moved::Forked { number, .. } => *number,
+        Moved::Stayed { number, .. } => *number,
+        Moved::Waited { number, .. } => *number,
     }
 }

@@ -5,8 +5,8 @@ ghost use Rattle.std.specs.List.{All};
 ghost use Rattle.snap_io.specs.Causes.{NoneFell, Rose};
 ghost use Rattle.snap_io.specs.Files.{file_of};
 ghost use Rattle.snap_rows.specs.Form.{comps};
-ghost use Rattle.snap_trace.specs.PacketLines.{bad};
-ghost use Rattle.snap_trace.specs.Reading.{FitsLine, said_of};
+ghost use Rattle.snap_report.specs.PacketLines.{bad};
+ghost use Rattle.snap_report.specs.Reading.{FitsLine, said_of};
 ghost use Rattle.snap_runs.specs.Plain.{at_ports};
 ghost use Rattle.snap_runs.specs.Playing.{AreAll, HasRead, IsReady, TakesLine};
 ghost use Rattle.snap_runs.specs.Schedules.{RefusesPackets};
@@ -14,9 +14,9 @@ ghost use Rattle.snap_runs.specs.Schedules.{RefusesPackets};
 use snap_core::NoMemory;
 use snap_core::packet::Packet;
 use snap_io::Shelf;
+use snap_report::packets::PacketLines;
+use snap_report::{Line, TraceFault};
 use snap_rows::valid::Valid;
-use snap_trace::packets::PacketLines;
-use snap_trace::{Line, TraceFault};
 use std::alloc::Global;
 
 /// A packet that can be injected at a port, which is its first component.

@@ -12,9 +12,9 @@ use crate::play::Play;
 use crate::ready::{Ready, read_packets};
 use snap_core::NoMemory;
 use snap_io::{ReadRefusal, Shelf, Sink, WriteFailed, read_whole, write_whole};
+use snap_report::TraceFault;
+use snap_report::switch::MOST_BYTES;
 use snap_rows::valid::Valid;
-use snap_trace::TraceFault;
-use snap_trace::switch::MOST_BYTES;
 use std::alloc::Global;
 use thiserror::Error;
 

@@ -2,14 +2,14 @@
 
 ghost use Rattle.std.specs.Prelude.{◌≡◌, ◌++◌, [], codes, slice_get, unwrap_or, OnOk};
 ghost use Rattle.std.specs.List.{flat_map};
-ghost use Rattle.snap_trace.specs.Reports.{listed_line};
+ghost use Rattle.snap_report.specs.Reports.{listed_line};
 ghost use Rattle.snap_runs.specs.Reports.{PutsEnd, names_of};
 
 use snap_core::NoMemory;
 use snap_core::place::Listed;
 use snap_net::net::Net;
+use snap_report::report::put_place;
 use snap_rows::lists::ArraysAt;
-use snap_trace::report::put_place;
 
 // For the lines of so many places room is taken together.
 const TOGETHER: usize = 64;

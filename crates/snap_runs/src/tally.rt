@@ -8,7 +8,7 @@ ghost use Rattle.snap_core.specs.Packets.{packet_cmp};
 ghost use Rattle.snap_rows.specs.Form.{switch_count};
 ghost use Rattle.snap_runs.specs.Crossings.{PutsWay, digits_of, line_text};
 ghost use Rattle.snap_runs.specs.Reports.{packet_line};
-ghost use Rattle.snap_trace.specs.Reports.{out_lines, lost_line};
+ghost use Rattle.snap_report.specs.Reports.{out_lines, lost_line};
 ghost use Rattle.snap_runs.specs.Tallies.{delivered_by, IsBlockText, IsThere, line_after, line_of, lost_by, packets_sent, PutsBlock};
 
 use crate::frames::Frames;
@@ -16,16 +16,16 @@ use crate::links::{Tail, long_tail, put_long_line};
 use snap_core::NoMemory;
 use snap_core::packet::Packet;
 use snap_core::program::Fields;
-use snap_head::encode::encode;
+use snap_net::encode::encode;
 use snap_net::happened::Moved;
 use snap_net::net::Net;
 use snap_net::watch::Watch;
-use snap_rows::head::{Head, Sent};
-use snap_rows::valid::Valid;
-use snap_trace::front::{put_byte_before, put_bytes_before, put_number_before};
-use snap_trace::report::{
+use snap_report::front::{put_byte_before, put_bytes_before, put_number_before};
+use snap_report::report::{
     name_at, put_head, put_head_before, put_number, put_out, put_outs_before,
 };
+use snap_rows::head::{Head, Sent};
+use snap_rows::valid::Valid;
 use std::alloc::Global;
 use std::cmp::Ordering;
 use std::slice;

@@ -8,9 +8,9 @@ ghost use Rattle.snap_runs.specs.Plain.{WritesTrace, WritesTraceBy};
 use crate::frames::Frames;
 use crate::tracer::Tracer;
 use snap_io::{Shelf, Sink};
+use snap_report::TraceFault;
+use snap_report::runner::run_over;
 use snap_rows::valid::Valid;
-use snap_trace::TraceFault;
-use snap_trace::runner::run_over;
 use std::alloc::Global;
 
 /// Writes the report of the network with these tables over the packets file with this name (`docs/FORMATS.md`,

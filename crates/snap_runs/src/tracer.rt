@@ -8,7 +8,7 @@ ghost use Rattle.snap_rows.specs.Form.{array_count, comps};
 ghost use Rattle.snap_rows.specs.Network.{Net as State, start};
 ghost use Rattle.snap_net.specs.declared.net.InjectFault.{InjectFault};
 ghost use Rattle.snap_net.specs.Passing.{Passes, lost_in, sent_in};
-ghost use Rattle.snap_net.specs.Shown.{Shows};
+ghost use Rattle.snap_net.specs.Shown.{Represents};
 ghost use Rattle.snap_runs.specs.Reports.{PutsEnd};
 
 use crate::frames::Frames;
@@ -21,9 +21,9 @@ use snap_io::{Output, Sink};
 use snap_net::net::{InjectFault, Net, open_net};
 use snap_net::passing::Passed;
 use snap_net::watch::Unwatched;
+use snap_report::TraceFault;
+use snap_report::runner::Machine;
 use snap_rows::valid::Valid;
-use snap_trace::TraceFault;
-use snap_trace::runner::Machine;
 use std::alloc::Global;
 
 /// A network between two packets, and room for what happens to a packet.
@@ -46,7 +46,7 @@ impl Tracer {
         ensures hops { IfOk result (λ tracer. tracer.hops ≡ hops) }
         ensures frames { IfOk result (λ tracer. tracer.frames ≡ frames) }
         ensures injected { IfOk result (λ tracer. tracer.net.injected ≡ 0) }
-        ensures start { IfOk result (λ tracer. Shows tracer.net (start tables zero_arrays)) }
+        ensures start { IfOk result (λ tracer. Represents tracer.net (start tables zero_arrays)) }
     {
         let net = open_net(alloc, tables)?;
         Ok(Tracer {
@@ -83,7 +83,7 @@ impl Tracer {
     pub fn change(&mut self, tables: Valid) -> Result<(), NoMemory>
         requires { array_count tables ≡ array_count self.old.net.tables }
         ensures tables { OnOk result (self.new.net.tables ≡ tables) }
-        ensures changed { OnOk result ((s : State) → Shows self.old.net s → Shows self.new.net (changed tables self.old.net.tables s)) }
+        ensures changed { OnOk result ((s : State) → Represents self.old.net s → Represents self.new.net (changed tables self.old.net.tables s)) }
         ensures injected { self.new.net.injected ≡ self.old.net.injected }
         ensures hops { self.new.hops ≡ self.old.hops }
         ensures frames { self.new.frames ≡ self.old.frames }

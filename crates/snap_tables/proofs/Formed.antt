@@ -29,13 +29,13 @@ use Rattle.snap_rows.specs.declared.tables.ArrayAt.{ArrayAt}
 use Rattle.snap_rows.specs.declared.tables.RowAt.{RowAt}
 use Rattle.snap_rows.specs.declared.tables.Row.{Row}
 use Rattle.snap_rows.specs.declared.tables.Row.TheVariants as row
-use Rattle.snap_rows.specs.declared.tables.Stage.{Stage as Turn}
+use Rattle.snap_rows.specs.declared.tables.Stage.{Stage as LeafStage}
 use Rattle.snap_rows.specs.declared.tables.Tables.{Tables}
 use Rattle.snap_rows.specs.Entries.{Parts, rank_of}
 use Rattle.snap_core.specs.Ports.{link_cmp}
-use Rattle.snap_rows.specs.Form.{Alternate, AlternateFrom, AreOutsInForm, IsArrayInForm, IsFieldTest, IsInForm, IsLinkInForm, IsOpInForm, IsPartsInForm, IsPortInForm, IsRowAtInForm, IsRowInForm, IsStateTest, IsTurnInForm, IsUpdateInForm, RanksRise, comps, parts_cmp, row_cmp}
+use Rattle.snap_rows.specs.Form.{Alternate, AlternateFrom, AreOutsWellFormed, IsArrayWellFormed, IsFieldTest, IsWellFormed, IsLinkWellFormed, IsOpWellFormed, IsPartsWellFormed, IsPortWellFormed, IsRowAtWellFormed, IsRowWellFormed, IsStateTest, IsLeafStageWellFormed, IsUpdateWellFormed, RanksRise, comps, parts_cmp, row_cmp}
 use Rattle.snap_tables.specs.Laws.{IsAtom, IsIndex, IsOp, IsPart, IsRank, IsRankIf, IsTerm, IsTestOf, IsUpdateOf}
-use Rattle.snap_tables.specs.Entries.{AreInTurn, IsNextArray, IsNextField, IsNextLink, IsNextPort, IsNextRow, IsNextSwitch, all_declared, are_new, array_fits, declared, is_field_at, is_new, is_plain_field}
+use Rattle.snap_tables.specs.Entries.{AreInSequence, IsNextArray, IsNextField, IsNextLink, IsNextPort, IsNextRow, IsNextSwitch, all_declared, are_new, array_fits, declared, is_field_at, is_new, is_plain_field}
 use Rattle.snap_tables.specs.Lines.{IsBeginning, IsWhole, counts_of, has, has_all_hops}
 use Rattle.snap_tables.specs.Pieces.{is_adjacent}
 use Rattle.snap_tables.specs.Rows.{AreOuts, IsOut, IsRowOf, IsStage, is_field_test, rank_among, rises_from, stands_apart}
@@ -133,7 +133,7 @@ no-fields : AreFields []
 unfolding StartsPorts IsDistinct
 no-fields = record { starts = tt; differ = tt }
 
-pub are-fields : (fs : List Field) → AreInTurn IsNextField fs → count fs ≤ 64 → 2 ≤ length fs → IsFields fs
+pub are-fields : (fs : List Field) → AreInSequence IsNextField fs → count fs ≤ 64 → 2 ≤ length fs → IsFields fs
 are-fields fs turn few some =
     let a = in-turn IsNextField AreFields fields-push no-fields fs turn in
     record {
@@ -144,7 +144,7 @@ are-fields fs turn few some =
     }
 
 -- ---- arrays, links, ports
-arrays-differ : (v n : ℕ) (as' : List ArrayAt) → AreInTurn (IsNextArray v n) as' → IsDistinct bytes_eq (map (λ (a : ArrayAt). a.name) as')
+arrays-differ : (v n : ℕ) (as' : List ArrayAt) → AreInSequence (IsNextArray v n) as' → IsDistinct bytes_eq (map (λ (a : ArrayAt). a.name) as')
 arrays-differ v n as' turn = in-turn (IsNextArray v n) (λ xs. IsDistinct bytes_eq (map (λ (a : ArrayAt). a.name) xs)) step no-names as' turn
   where
     fits-new : (xs : List ArrayAt) (a : ArrayAt) → array_fits xs a ≡ true → is_new (map (λ (b : ArrayAt). b.name) xs) a.name ≡ true
@@ -194,39 +194,39 @@ module _ (t : Tables) where
   op-fits (Put a) f = atom-fits a f
   op-fits (Add n) f = tt
 
-  op-form : (o : Op) → IsOp (comps t) o → IsOpInForm o
+  op-form : (o : Op) → IsOp (comps t) o → IsOpWellFormed o
   op-form (Put a) f = tt
   op-form (Add n) f = f.0
 
-  update-form : (u : Update) → IsUpdateOf (comps t) (length t.arrays) u → IsUpdateInForm t u
+  update-form : (u : Update) → IsUpdateOf (comps t) (length t.arrays) u → IsUpdateWellFormed t u
   update-form u f = record { fits = record { var = f.0; index = index-fits u.index f.1; op = op-fits u.op f.2 }; index = (f.1.1, f.1.2); op = op-form u.op f.2 }
 
   part-fits : (p : ℕ × Atom) → IsPart (comps t) p → PartFits (comps t) p
   part-fits p f = record { comp = f.0; atom = atom-fits p.1 f.1 }
 
-  out-form : (o : Parts) → IsOut (counts_of t) o → IsPartsInForm t o
+  out-form : (o : Parts) → IsOut (counts_of t) o → IsPartsWellFormed t o
   out-form o f = record {
     fits = All-weaker (IsPart (comps t)) (PartFits (comps t)) part-fits o f.0;
     rising = rising-out o f.1;
     changes = All-weaker (IsPart (comps t)) (λ p. p.1 ≢ Comp p.0) (λ p h. h.2) o f.0;
   }
 
-  outs-form : (os : List Parts) → AreOuts (counts_of t) os → AreOutsInForm t os
-  outs-form os f = record { each = All-weaker (IsOut (counts_of t)) (IsPartsInForm t) out-form os f.0; rising = adjacent-sorted parts_cmp parts-total os f.1 }
+  outs-form : (os : List Parts) → AreOuts (counts_of t) os → AreOutsWellFormed t os
+  outs-form os f = record { each = All-weaker (IsOut (counts_of t)) (IsPartsWellFormed t) out-form os f.0; rising = adjacent-sorted parts_cmp parts-total os f.1 }
 
-  stage-form : (s : Turn) → IsStage (counts_of t) s → IsTurnInForm t s
-  stage-form s f = record { at = f.0; some = f.1; each = All-weaker (IsUpdateOf (comps t) (length t.arrays)) (IsUpdateInForm t) update-form s.ups f.2 }
+  stage-form : (s : LeafStage) → IsStage (counts_of t) s → IsLeafStageWellFormed t s
+  stage-form s f = record { at = f.0; some = f.1; each = All-weaker (IsUpdateOf (comps t) (length t.arrays)) (IsUpdateWellFormed t) update-form s.ups f.2 }
 
   apart : (a b : ℕ) → not (a == b) ≡ true → b ≢ a
   apart a b e same = false-true (sym (ap not (Rattle.std.proofs.lemmas.Bool.eq-eqb a b (sym same))) ∙ e)
 
-  alternate-from : (s : Turn) (ss : List Turn) → is_adjacent stands_apart (s ∷ ss) ≡ true → AlternateFrom s.at ss
+  alternate-from : (s : LeafStage) (ss : List LeafStage) → is_adjacent stands_apart (s ∷ ss) ≡ true → AlternateFrom s.at ss
   alternate-from s [] e = tt
   alternate-from s (u ∷ ss) e =
       let k = and_parts (stands_apart s u) (is_adjacent stands_apart (u ∷ ss)) e in
       (apart s.at u.at k.0, alternate-from u ss k.1)
 
-  alternates : (ss : List Turn) → is_adjacent stands_apart ss ≡ true → Alternate ss
+  alternates : (ss : List LeafStage) → is_adjacent stands_apart ss ≡ true → Alternate ss
   alternates [] e = tt
   alternates (s ∷ ss) e = alternate-from s ss e
 
@@ -272,13 +272,13 @@ module _ (t : Tables) where
   state-test (Equal a b n) f e = absurd (false-true (sym e))
   state-test (StateTest v es x) f e = (f.0, (f.1.1, f.1.2))
 
-  row-form : (b : Row) → IsRowOf t.version (counts_of t) t.arrays b → IsRowInForm t b
+  row-form : (b : Row) → IsRowOf t.version (counts_of t) t.arrays b → IsRowWellFormed t b
   row-form (row.Field x y z) f = (test-fits x f.0, field-test x f.0 f.1)
   row-form (row.State x y z) f = (test-fits x f.0, state-test x f.0 f.1)
   row-form (row.Go x) f = (eqb-true t.version 1 f.0, f.1)
-  row-form (row.Leaf ss os) f = (eqb-true t.version 1 f.0, f.1.2, All-weaker (IsStage (counts_of t)) (IsTurnInForm t) stage-form ss f.1.0, alternates ss f.1.1, outs-form os f.2)
+  row-form (row.Leaf ss os) f = (eqb-true t.version 1 f.0, f.1.2, All-weaker (IsStage (counts_of t)) (IsLeafStageWellFormed t) stage-form ss f.1.0, alternates ss f.1.1, outs-form os f.2)
   row-form row.Stop f = eqb-true t.version 2 f
-  row-form (row.Last us os) f = (eqb-true t.version 2 f.0, All-weaker (IsUpdateOf (comps t) (length t.arrays)) (IsUpdateInForm t) update-form us f.1.0, ranks-rise us f.1.1, outs-form os f.2)
+  row-form (row.Last us os) f = (eqb-true t.version 2 f.0, All-weaker (IsUpdateOf (comps t) (length t.arrays)) (IsUpdateWellFormed t) update-form us f.1.0, ranks-rise us f.1.1, outs-form os f.2)
 
 -- ---- the whole
 some-has : {X : Type 0} (xs : List X) → has xs ≡ true → 1 ≤ length xs
@@ -292,22 +292,22 @@ module _ (t : Tables) (b : IsBeginning t) (w : IsWhole t) where
   n : ℕ
   n = length t.switches
 
-  over-hops : (length t.switches ≤ (Rattle.snap_tables.specs.Entries.turn (length t.switches) t.hops).0) ⊎ (length t.switches ≤ (Rattle.snap_tables.specs.Entries.turn (length t.switches) t.hops).1)
+  over-hops : (length t.switches ≤ (Rattle.snap_tables.specs.Entries.due_pair (length t.switches) t.hops).0) ⊎ (length t.switches ≤ (Rattle.snap_tables.specs.Entries.due_pair (length t.switches) t.hops).1)
   over-hops =
       let m = and_parts (has t.switches) (has_all_hops t) parts.1 in
-      let p = Rattle.snap_tables.specs.Entries.turn (length t.switches) t.hops in
+      let p = Rattle.snap_tables.specs.Entries.due_pair (length t.switches) t.hops in
       Rattle.std.proofs.Common.⊎_elim (λ e. inl (leb-true (length t.switches) p.0 e)) (λ e. inr (leb-true (length t.switches) p.1 e)) (or_cases (nat_le (length t.switches) p.0) (nat_le (length t.switches) p.1) m.1)
 
-  array-form : (ys : List ArrayAt) (a : ArrayAt) → IsNextArray t.version (length t.switches) ys a → IsArrayInForm t a
+  array-form : (ys : List ArrayAt) (a : ArrayAt) → IsNextArray t.version (length t.switches) ys a → IsArrayWellFormed t a
   array-form ys a f = record { name = f.0; at = f.1; rank = rank-less t.version a.rank f.2; one = λ e. rank-none t.version a.rank f.2 e }
 
-  link-form : (ys : List (ℕ × ℕ)) (l : ℕ × ℕ) → IsNextLink (length t.switches) ys l → IsLinkInForm t l
+  link-form : (ys : List (ℕ × ℕ)) (l : ℕ × ℕ) → IsNextLink (length t.switches) ys l → IsLinkWellFormed t l
   link-form ys l f = record { lesser = Rattle.std.proofs.lemmas.Bool.ltb-true l.0 l.1 (and_parts (nat_lt l.0 l.1) (Rattle.snap_tables.specs.Entries.is_above Rattle.snap_tables.specs.Entries.link_less ys l) f.2).0; below = f.1 }
 
-  port-form : (ys : List PortAt) (p : PortAt) → IsNextPort (length t.switches) ys p → IsPortInForm t p
+  port-form : (ys : List PortAt) (p : PortAt) → IsNextPort (length t.switches) ys p → IsPortWellFormed t p
   port-form ys p f = record { some = f.0; at = f.2 }
 
-  row-at-form : (ys : List RowAt) (r : RowAt) → IsNextRow t.version (counts_of t) t.arrays ys r → IsRowAtInForm t r
+  row-at-form : (ys : List RowAt) (r : RowAt) → IsNextRow t.version (counts_of t) t.arrays ys r → IsRowAtWellFormed t r
   row-at-form ys r f = record { at = f.0; row = row-form t r.row f.2 }
 
   links-rise : IsStrictlySortedBy link_cmp t.links
@@ -321,10 +321,10 @@ module _ (t : Tables) (b : IsBeginning t) (w : IsWhole t) where
   rows-rise : IsStrictlySortedBy row_cmp t.rows
   rows-rise = in-turn (IsNextRow t.version (counts_of t) t.arrays) (IsStrictlySortedBy row_cmp) (λ ys x s f. sorted-push row_cmp row-total ys x s f.3) (sorted-nil row_cmp) t.rows b.rows
 
-  hop-form : (h : Rattle.snap_rows.specs.declared.tables.Hop.Hop) → IsGood (length t.switches) h → Rattle.snap_rows.specs.Form.IsHopInForm t h
+  hop-form : (h : Rattle.snap_rows.specs.declared.tables.Hop.Hop) → IsGood (length t.switches) h → Rattle.snap_rows.specs.Form.IsHopWellFormed t h
   hop-form h g = record { from = g.from; target = g.target; other = g.other; next = g.next }
 
-  pub in-form : IsInForm t
+  pub in-form : IsWellFormed t
   in-form = record {
     version = b.version;
     fields = are-fields t.fields b.fields b.few_comps (leb-true 2 (length t.fields) parts.0);
@@ -334,18 +334,18 @@ module _ (t : Tables) (b : IsBeginning t) (w : IsWhole t) where
     switch_names = each-turn IsNextSwitch (λ name. Rattle.std.specs.Prelude.IsTrue (is_switch_name name)) (λ ys x f. f.0) t.switches b.switches;
     switches_differ = in-turn IsNextSwitch (IsDistinct bytes_eq) (λ ys x d f. distinct-push ys x d f.1) no-names t.switches b.switches;
     few_arrays = b.few_arrays;
-    arrays = each-turn (IsNextArray t.version (length t.switches)) (IsArrayInForm t) array-form t.arrays b.arrays;
+    arrays = each-turn (IsNextArray t.version (length t.switches)) (IsArrayWellFormed t) array-form t.arrays b.arrays;
     arrays_differ = arrays-differ t.version (length t.switches) t.arrays b.arrays;
     few_links = b.few_links;
-    links = each-turn (IsNextLink (length t.switches)) (IsLinkInForm t) link-form t.links b.links;
+    links = each-turn (IsNextLink (length t.switches)) (IsLinkWellFormed t) link-form t.links b.links;
     links_rise = links-rise;
     few_ports = b.few_ports;
-    ports = each-turn (IsNextPort (length t.switches)) (IsPortInForm t) port-form t.ports b.ports;
+    ports = each-turn (IsNextPort (length t.switches)) (IsPortWellFormed t) port-form t.ports b.ports;
     ports_rise = ports-rise;
     few_hops = hops-few (length t.switches) b.few_switches t.hops b.hops;
-    hops = Rattle.std.proofs.lemmas.List.Elements.All-weaker (IsGood (length t.switches)) (Rattle.snap_rows.specs.Form.IsHopInForm t) hop-form t.hops (hops-good (length t.switches) b.few_switches t.hops b.hops);
+    hops = Rattle.std.proofs.lemmas.List.Elements.All-weaker (IsGood (length t.switches)) (Rattle.snap_rows.specs.Form.IsHopWellFormed t) hop-form t.hops (hops-good (length t.switches) b.few_switches t.hops b.hops);
     hops_rise = hops-rise (length t.switches) b.few_switches t.hops b.hops;
     all_hops = λ a x la lx o. hops-all (length t.switches) b.few_switches t.hops b.hops over-hops a x la lx o;
-    rows = each-turn (IsNextRow t.version (counts_of t) t.arrays) (IsRowAtInForm t) row-at-form t.rows b.rows;
+    rows = each-turn (IsNextRow t.version (counts_of t) t.arrays) (IsRowAtWellFormed t) row-at-form t.rows b.rows;
     rows_rise = rows-rise;
   }

@@ -1,4 +1,4 @@
--- Next hops that came in turn: they rise, and none is left out.
+-- Next hops that came in sequence: they rise, and none is left out.
 use Rattle.std.proofs.Common.{◌≡◌, ◌≢◌, ℕ, ◌+◌, ◌-◌, ◌*◌, ◌<◌, ◌≤◌, Bool, true, false, cond, List, [], ◌∷◌, ◌++◌, Some, length, refl, sym, ap, subst, ◌∙◌, arith, add-one, append_assoc, inl, inr, get_or}
 use Rattle.std.specs.Prelude.{◌⊎◌, ◌==◌, ◌||◌, Contains, nat_le, nat_lt, slice_get}
 use Rattle.std.specs.List.{All}
@@ -15,7 +15,7 @@ use Rattle.snap_core.proofs.Elements.{All-back, All-front}
 use Rattle.snap_core.proofs.Orders.{lt-from_Less}
 use Rattle.snap_rows.specs.declared.tables.Hop.{Hop}
 use Rattle.snap_rows.specs.Form.{hop_cmp}
-use Rattle.snap_tables.specs.Entries.{AllFrom, AreInTurn, IsNextHop, next_pair, pair_from, turn}
+use Rattle.snap_tables.specs.Entries.{AllFrom, AreInSequence, IsNextHop, next_pair, pair_from, due_pair}
 use Rattle.snap_tables.proofs.PieceLemmas.{all-push}
 use Rattle.snap_tables.proofs.Splits.{sorted-before, sorted-behind}
 use Rattle.snap_tables.proofs.Turns.{in-turn}
@@ -125,7 +125,7 @@ last-push hs h = ap (λ i. slice_get (hs ++ (h ∷ [])) i) (let l = Rattle.std.p
     at [] = refl
     at (g ∷ gs) = at gs
 
-turn-push : (n : ℕ) (hs : List Hop) (h : Hop) → turn n (hs ++ (h ∷ [])) ≡ next_pair n (h.from, h.target)
+turn-push : (n : ℕ) (hs : List Hop) (h : Hop) → due_pair n (hs ++ (h ∷ [])) ≡ next_pair n (h.from, h.target)
 turn-push n hs h = ap (λ o. option_map_or (λ (h : Hop). next_pair n (h.from, h.target)) o (0, 1)) (last-push hs h)
 
 abbrev pub HasPair : List Hop → ℕ → ℕ → Type 0
@@ -140,13 +140,13 @@ pub record IsGood (n : ℕ) (h : Hop) : Type 0 where
 record SoFar (n : ℕ) (hs : List Hop) : Type 0 where
   each : All (IsGood n) hs
   sorted : IsStrictlySortedBy hop_cmp hs
-  below : All (λ (h : Hop). code h.from h.target < code (turn n hs).0 (turn n hs).1) hs
-  full : (a x : ℕ) → a < n → x < n → a ≢ x → code a x < code (turn n hs).0 (turn n hs).1 → HasPair hs a x
-  apart : (turn n hs).0 ≢ (turn n hs).1
-  count : length hs + cut (turn n hs).0 (turn n hs).1 ≡ (turn n hs).0 * (n - 1) + (turn n hs).1
-  most : (turn n hs).0 ≤ n
-  ends : ((turn n hs).1 < n) ⊎ (((turn n hs).1 ≡ 0) ⊎ (n ≤ 1))
-  last : (turn n hs).0 ≡ n → ((turn n hs).1 ≡ 0) ⊎ (n ≤ 1)
+  below : All (λ (h : Hop). code h.from h.target < code (due_pair n hs).0 (due_pair n hs).1) hs
+  full : (a x : ℕ) → a < n → x < n → a ≢ x → code a x < code (due_pair n hs).0 (due_pair n hs).1 → HasPair hs a x
+  apart : (due_pair n hs).0 ≢ (due_pair n hs).1
+  count : length hs + cut (due_pair n hs).0 (due_pair n hs).1 ≡ (due_pair n hs).0 * (n - 1) + (due_pair n hs).1
+  most : (due_pair n hs).0 ≤ n
+  ends : ((due_pair n hs).1 < n) ⊎ (((due_pair n hs).1 ≡ 0) ⊎ (n ≤ 1))
+  last : (due_pair n hs).0 ≡ n → ((due_pair n hs).1 ≡ 0) ⊎ (n ≤ 1)
 
 hop-less : (g h : Hop) → g.target < 65536 → h.target < 65536 → code g.from g.target < code h.from h.target → hop_cmp g h ≡ Less
 unfolding code
@@ -179,7 +179,7 @@ module _ (n : ℕ) (few : n ≤ 256) where
   none-yet = record {
     each = All-nil (IsGood n);
     sorted = tt;
-    below = All-nil (λ (h : Hop). code h.from h.target < code (turn n []).0 (turn n []).1);
+    below = All-nil (λ (h : Hop). code h.from h.target < code (due_pair n []).0 (due_pair n []).1);
     full = λ a x la lx o lt. absurd (o (omega (arith, lt)));
     apart = λ e. omega (arith, e);
     count = omega arith;
@@ -189,11 +189,11 @@ module _ (n : ℕ) (few : n ≤ 256) where
   }
 
   module _ (hs : List Hop) (h : Hop) (s : SoFar n hs) (next : IsNextHop n hs h) where
-    is-from : h.from ≡ (turn n hs).0
-    is-from = eqb-true h.from (turn n hs).0 (and_parts (h.from == (turn n hs).0) (h.target == (turn n hs).1) next.3).0
+    is-from : h.from ≡ (due_pair n hs).0
+    is-from = eqb-true h.from (due_pair n hs).0 (and_parts (h.from == (due_pair n hs).0) (h.target == (due_pair n hs).1) next.3).0
 
-    is-target : h.target ≡ (turn n hs).1
-    is-target = eqb-true h.target (turn n hs).1 (and_parts (h.from == (turn n hs).0) (h.target == (turn n hs).1) next.3).1
+    is-target : h.target ≡ (due_pair n hs).1
+    is-target = eqb-true h.target (due_pair n hs).1 (and_parts (h.from == (due_pair n hs).0) (h.target == (due_pair n hs).1) next.3).1
 
     differ : h.from ≢ h.target
     differ e = s.apart (sym is-from ∙ e ∙ is-target)
@@ -201,16 +201,16 @@ module _ (n : ℕ) (few : n ≤ 256) where
     step : IsBehind n h.from h.target (next_pair n (h.from, h.target))
     step = behind n few h.from h.target next.0 next.1 differ
 
-    here : code h.from h.target ≡ code (turn n hs).0 (turn n hs).1
+    here : code h.from h.target ≡ code (due_pair n hs).0 (due_pair n hs).1
     here = (λ i. code (is-from i) (is-target i))
 
-    good-below : (g : Hop) → code g.from g.target < code (turn n hs).0 (turn n hs).1 → code g.from g.target < code (next_pair n (h.from, h.target)).0 (next_pair n (h.from, h.target)).1
+    good-below : (g : Hop) → code g.from g.target < code (due_pair n hs).0 (due_pair n hs).1 → code g.from g.target < code (next_pair n (h.from, h.target)).0 (next_pair n (h.from, h.target)).1
     good-below g lt = omega (arith, lt, here, step.above)
 
-    lesses : (gs : List Hop) → All (IsGood n) gs → All (λ (g : Hop). code g.from g.target < code (turn n hs).0 (turn n hs).1) gs → All (λ g. hop_cmp g h ≡ Less) gs
+    lesses : (gs : List Hop) → All (IsGood n) gs → All (λ (g : Hop). code g.from g.target < code (due_pair n hs).0 (due_pair n hs).1) gs → All (λ g. hop_cmp g h ≡ Less) gs
     lesses gs a b = λ i d l. hop-less (get_or gs i d) h (omega (arith, (a i d l).target, few)) (omega (arith, next.1, few)) (omega (arith, b i d l, here))
 
-    all-below : (gs : List Hop) → All (λ (g : Hop). code g.from g.target < code (turn n hs).0 (turn n hs).1) gs → All (λ (g : Hop). code g.from g.target < code (next_pair n (h.from, h.target)).0 (next_pair n (h.from, h.target)).1) gs
+    all-below : (gs : List Hop) → All (λ (g : Hop). code g.from g.target < code (due_pair n hs).0 (due_pair n hs).1) gs → All (λ (g : Hop). code g.from g.target < code (next_pair n (h.from, h.target)).0 (next_pair n (h.from, h.target)).1) gs
     all-below gs b = λ i d l. good-below (get_or gs i d) (b i d l)
 
     filled : (a x : ℕ) → a < n → x < n → a ≢ x → code a x < code (next_pair n (h.from, h.target)).0 (next_pair n (h.from, h.target)).1 → HasPair (hs ++ (h ∷ [])) a x
@@ -240,17 +240,17 @@ module _ (n : ℕ) (few : n ≤ 256) where
           last = subst (λ (q : ℕ × ℕ). q.0 ≡ n → (q.1 ≡ 0) ⊎ (n ≤ 1)) (sym t) (λ e. inl (step.last e));
         }
 
-  so-far : (hs : List Hop) → AreInTurn (IsNextHop n) hs → SoFar n hs
+  so-far : (hs : List Hop) → AreInSequence (IsNextHop n) hs → SoFar n hs
   so-far hs turn' = in-turn (IsNextHop n) (SoFar n) one-more none-yet hs turn'
 
-  pub hops-good : (hs : List Hop) → AreInTurn (IsNextHop n) hs → All (IsGood n) hs
+  pub hops-good : (hs : List Hop) → AreInSequence (IsNextHop n) hs → All (IsGood n) hs
   hops-good hs t = (so-far hs t).each
 
-  pub hops-rise : (hs : List Hop) → AreInTurn (IsNextHop n) hs → IsStrictlySortedBy hop_cmp hs
+  pub hops-rise : (hs : List Hop) → AreInSequence (IsNextHop n) hs → IsStrictlySortedBy hop_cmp hs
   hops-rise hs t = (so-far hs t).sorted
 
   -- no pair is left out where none is left
-  pub hops-all : (hs : List Hop) → AreInTurn (IsNextHop n) hs → (n ≤ (turn n hs).0) ⊎ (n ≤ (turn n hs).1) → (a x : ℕ) → a < n → x < n → a ≢ x → HasPair hs a x
+  pub hops-all : (hs : List Hop) → AreInSequence (IsNextHop n) hs → (n ≤ (due_pair n hs).0) ⊎ (n ≤ (due_pair n hs).1) → (a x : ℕ) → a < n → x < n → a ≢ x → HasPair hs a x
   unfolding code
   hops-all hs t over a x la lx o =
       let s = so-far hs t in
@@ -258,11 +258,11 @@ module _ (n : ℕ) (few : n ≤ 256) where
       (λ l. s.full a x la lx o (omega (arith, l, la, lx, few)))
       (λ l. Rattle.std.proofs.Common.⊎_elim (λ e. absurd (omega (arith, l, e))) (λ e. Rattle.std.proofs.Common.⊎_elim (λ z. absurd (omega (arith, l, z, la))) (λ m. absurd (o (omega (arith, m, la, lx)))) e) s.ends) over
 
-  pub hops-few : (hs : List Hop) → AreInTurn (IsNextHop n) hs → length hs ≤ 65280
+  pub hops-few : (hs : List Hop) → AreInSequence (IsNextHop n) hs → length hs ≤ 65280
   hops-few hs t =
       let s = so-far hs t in
-      let p = (turn n hs).0 in
-      let q = (turn n hs).1 in
+      let p = (due_pair n hs).0 in
+      let q = (due_pair n hs).1 in
       Rattle.std.proofs.Common.⊎_elim
       (λ l.
       let m = mul-le p (n - 1) 255 255 (omega (arith, l, few)) (omega (arith, few)) in
@@ -274,11 +274,11 @@ module _ (n : ℕ) (few : n ≤ 256) where
       short : (p q : ℕ) → n ≤ 1 → length hs ≤ 65280
       short p q w = none hs t w
         where
-          none : (gs : List Hop) → AreInTurn (IsNextHop n) gs → n ≤ 1 → length gs ≤ 65280
+          none : (gs : List Hop) → AreInSequence (IsNextHop n) gs → n ≤ 1 → length gs ≤ 65280
           none [] t w = omega arith
           none (g ∷ gs) t w = absurd (let f = t.0.3 in let d = and_parts (g.from == 0) (g.target == 1) f in let e = eqb-true g.target 1 d.1 in omega (arith, t.0.1, w, e))
 
--- ---- the other way: next hops that rise and leave no pair out came in turn
+-- ---- the other way: next hops that rise and leave no pair out came in sequence
 less-code : (g h : Hop) → g.target < 65536 → h.target < 65536 → hop_cmp g h ≡ Less → code g.from g.target < code h.from h.target
 unfolding code
 less-code g h gt ht lt = Rattle.std.proofs.Common.⊎_elim
@@ -323,49 +323,49 @@ module _ (n : ℕ) (few : n ≤ 256) (hs : List Hop) (good : All (IsGood n) hs) 
     above-not : (k : ℕ) (gs : List Hop) → k < code h.from h.target → All (λ (g : Hop). code h.from h.target < code g.from g.target) gs → All (λ (g : Hop). code g.from g.target ≢ k) gs
     above-not k gs lt a = λ i d l e. omega (arith, e, a i d l, lt)
 
-    not-before : code h.from h.target < code (turn n ys).0 (turn n ys).1 → ⊥
+    not-before : code h.from h.target < code (due_pair n ys).0 (due_pair n ys).1 → ⊥
     not-before lt = none-is ys h.from h.target (below-not (code h.from h.target) ys lowers) (s.full h.from h.target is-good.from is-good.target is-good.other lt)
 
-    turn-target : (turn n ys).1 < n
+    turn-target : (due_pair n ys).1 < n
     turn-target = Rattle.std.proofs.Common.⊎_elim (λ l. l)
         (λ r. Rattle.std.proofs.Common.⊎_elim (λ z. omega (arith, z, is-good.from)) (λ m. absurd (is-good.other (omega (arith, m, is-good.from, is-good.target)))) r) s.ends
 
-    turn-from : code (turn n ys).0 (turn n ys).1 < code h.from h.target → (turn n ys).0 < n
+    turn-from : code (due_pair n ys).0 (due_pair n ys).1 < code h.from h.target → (due_pair n ys).0 < n
     unfolding code
     turn-from lt = omega (arith, lt, is-good.from, is-good.target, few)
 
-    not-behind : code (turn n ys).0 (turn n ys).1 < code h.from h.target → ⊥
-    not-behind lt = none-is (ys ++ (h ∷ zs)) (turn n ys).0 (turn n ys).1
-        (All-append (λ (g : Hop). code g.from g.target ≢ code (turn n ys).0 (turn n ys).1) ys (h ∷ zs) (below-not (code (turn n ys).0 (turn n ys).1) ys s.below)
-        (All-cons (λ (g : Hop). code g.from g.target ≢ code (turn n ys).0 (turn n ys).1) h zs (λ same. omega (arith, same, lt)) (above-not (code (turn n ys).0 (turn n ys).1) zs lt uppers)))
-        (subst (λ gs. HasPair gs (turn n ys).0 (turn n ys).1) e (every (turn n ys).0 (turn n ys).1 (turn-from lt) turn-target s.apart))
+    not-behind : code (due_pair n ys).0 (due_pair n ys).1 < code h.from h.target → ⊥
+    not-behind lt = none-is (ys ++ (h ∷ zs)) (due_pair n ys).0 (due_pair n ys).1
+        (All-append (λ (g : Hop). code g.from g.target ≢ code (due_pair n ys).0 (due_pair n ys).1) ys (h ∷ zs) (below-not (code (due_pair n ys).0 (due_pair n ys).1) ys s.below)
+        (All-cons (λ (g : Hop). code g.from g.target ≢ code (due_pair n ys).0 (due_pair n ys).1) h zs (λ same. omega (arith, same, lt)) (above-not (code (due_pair n ys).0 (due_pair n ys).1) zs lt uppers)))
+        (subst (λ gs. HasPair gs (due_pair n ys).0 (due_pair n ys).1) e (every (due_pair n ys).0 (due_pair n ys).1 (turn-from lt) turn-target s.apart))
 
-    same-code : code h.from h.target ≡ code (turn n ys).0 (turn n ys).1
-    same-code = Rattle.std.proofs.Common.⊎_elim (λ e. e) (λ o. Rattle.std.proofs.Common.⊎_elim (λ l. absurd (not-before l)) (λ g. absurd (not-behind g)) o) (cases_order (code h.from h.target) (code (turn n ys).0 (turn n ys).1))
+    same-code : code h.from h.target ≡ code (due_pair n ys).0 (due_pair n ys).1
+    same-code = Rattle.std.proofs.Common.⊎_elim (λ e. e) (λ o. Rattle.std.proofs.Common.⊎_elim (λ l. absurd (not-before l)) (λ g. absurd (not-behind g)) o) (cases_order (code h.from h.target) (code (due_pair n ys).0 (due_pair n ys).1))
 
-    same-from : h.from ≡ (turn n ys).0
+    same-from : h.from ≡ (due_pair n ys).0
     unfolding code
     same-from = omega (arith, same-code, is-good.target, turn-target, few)
 
-    same-target : h.target ≡ (turn n ys).1
+    same-target : h.target ≡ (due_pair n ys).1
     unfolding code
     same-target = omega (arith, same-code, is-good.target, turn-target, few)
 
     may-come : IsNextHop n ys h
-    may-come = (is-good.from, is-good.target, is-good.next, and_from (h.from == (turn n ys).0) (h.target == (turn n ys).1) (eq-eqb h.from (turn n ys).0 same-from) (eq-eqb h.target (turn n ys).1 same-target))
+    may-come = (is-good.from, is-good.target, is-good.next, and_from (h.from == (due_pair n ys).0) (h.target == (due_pair n ys).1) (eq-eqb h.from (due_pair n ys).0 same-from) (eq-eqb h.target (due_pair n ys).1 same-target))
 
   turns-behind : (ys zs : List Hop) → hs ≡ ys ++ zs → SoFar n ys → AllFrom (IsNextHop n) ys zs
   turns-behind ys [] e s = tt
   turns-behind ys (h ∷ zs) e s = let k = may-come ys h zs e s in (k, turns-behind (ys ++ (h ∷ [])) zs (e ∙ sym (append_assoc ys (h ∷ []) zs)) (one-more n few ys h s k))
 
-  pub hops-turn : AreInTurn (IsNextHop n) hs
+  pub hops-turn : AreInSequence (IsNextHop n) hs
   hops-turn = turns-behind [] hs refl (none-yet n few)
 
   -- and no pair is left
-  pub hops-over : (nat_le n (turn n hs).0 || nat_le n (turn n hs).1) ≡ true
+  pub hops-over : (nat_le n (due_pair n hs).0 || nat_le n (due_pair n hs).1) ≡ true
   hops-over =
       let s = so-far n few hs hops-turn in
       Rattle.std.proofs.Common.⊎_elim
-      (λ l. Rattle.std.proofs.Common.⊎_elim (λ m. absurd (none-is hs (turn n hs).0 (turn n hs).1 (below-not (code (turn n hs).0 (turn n hs).1) hs s.below) (every (turn n hs).0 (turn n hs).1 l m s.apart)))
-      (λ g. or_right (nat_le n (turn n hs).0) (nat_le n (turn n hs).1) (le-leb n (turn n hs).1 g)) (cases_lt (turn n hs).1 n))
-      (λ g. or_left (nat_le n (turn n hs).0) (nat_le n (turn n hs).1) (le-leb n (turn n hs).0 g)) (cases_lt (turn n hs).0 n)
+      (λ l. Rattle.std.proofs.Common.⊎_elim (λ m. absurd (none-is hs (due_pair n hs).0 (due_pair n hs).1 (below-not (code (due_pair n hs).0 (due_pair n hs).1) hs s.below) (every (due_pair n hs).0 (due_pair n hs).1 l m s.apart)))
+      (λ g. or_right (nat_le n (due_pair n hs).0) (nat_le n (due_pair n hs).1) (le-leb n (due_pair n hs).1 g)) (cases_lt (due_pair n hs).1 n))
+      (λ g. or_left (nat_le n (due_pair n hs).0) (nat_le n (due_pair n hs).1) (le-leb n (due_pair n hs).0 g)) (cases_lt (due_pair n hs).0 n)

@@ -18,7 +18,7 @@ use Rattle.snap_core.specs.Figures.{parts_by}
 use Rattle.snap_rows.specs.declared.tables.ArrayAt.{ArrayAt}
 use Rattle.snap_rows.specs.declared.tables.Row.{Row}
 use Rattle.snap_rows.specs.declared.tables.Row.TheVariants as row
-use Rattle.snap_rows.specs.declared.tables.Stage.{Stage as Turn}
+use Rattle.snap_rows.specs.declared.tables.Stage.{Stage as LeafStage}
 use Rattle.snap_rows.specs.Entries.{Parts}
 use Rattle.snap_tables.specs.Joins.{Lacks}
 use Rattle.snap_tables.specs.Text.{Words, atom_word, atoms_word, by_word, op_word, out_words, part_word, prefix_text, rank_words, row_words, spaced, stage_words, term_word, test_words, update_words}
@@ -99,7 +99,7 @@ module _ (k : Counts) (fits : k.comps < 2 ^ 64) (few : k.arrays < 2 ^ 64) (ends 
   out-ink : (o : Parts) → IsOut k o → AreInk (out_words o)
   out-ink o f = (ink-if (codes "out") refl, parts-ink k.comps fits o f.0)
 
-  stage-ink : (s : Turn) → IsStage k s → AreInk (stage_words s)
+  stage-ink : (s : LeafStage) → IsStage k s → AreInk (stage_words s)
   stage-ink s f = (ink-if (codes "at") refl, (decimal-ink s.at (omega (arith, f.0, ends)), are-map update_words (IsUpdateOf k.comps k.arrays) (update-ink k.comps fits k.arrays few) s.ups f.2))
 
   ways-ink : (y z : ℕ) → y < 2 ^ 64 → z < 2 ^ 64 → AreInk (decimal y ∷ decimal z ∷ [])

@@ -3,7 +3,7 @@ use Rattle.std.proofs.Common.{◌≡◌, ◌<◌, ◌≤◌, ◌^◌, Bool, true
 use Rattle.std.specs.List.{All, flat_map}
 use Rattle.snap_core.specs.declared.policy.Update.{Update}
 use Rattle.snap_rows.specs.declared.tables.ArrayAt.{ArrayAt}
-use Rattle.snap_rows.specs.declared.tables.Stage.{Stage as Turn}
+use Rattle.snap_rows.specs.declared.tables.Stage.{Stage as LeafStage}
 use Rattle.snap_rows.specs.Entries.{Parts}
 use Rattle.snap_tables.specs.Text.{Words, out_words, stage_words, update_words}
 use Rattle.snap_tables.specs.Laws.{IsUpdateOf}
@@ -52,7 +52,7 @@ module _ (k : Counts) (fits : k.comps < 2 ^ 64) (few : k.arrays < 2 ^ 64) (ends 
   pub stages-fail : FailsAfter stage_words (IsStage k) opens_stage begins_update ws → IsNoStages k ws
   stages-fail = front-fails stage_words (IsStage k) opens_stage begins_update (stages-apart k fits few ends) (AreStages k) (λ xs f. f.0) k outs-no-stage outs-no-update ws
 
-  module _ (stages : List Turn) (left : Words) (takes : TakesAll stage_words (IsStage k) opens_stage begins_update ws stages left) where
+  module _ (stages : List LeafStage) (left : Words) (takes : TakesAll stage_words (IsStage k) opens_stage begins_update ws stages left) where
     pub stages-no : (is_adjacent stands_apart stages ≡ true → length stages ≤ 65535 → ⊥) → IsNoStages k ws
     stages-no bad = front-no stage_words (IsStage k) opens_stage begins_update (stages-apart k fits few ends) (AreStages k) (λ xs f. f.0) k outs-no-stage outs-no-update ws stages left takes (λ f. bad f.1 f.2)
 

@@ -12,7 +12,7 @@ use Rattle.snap_rows.specs.declared.tables.ArrayAt.{ArrayAt}
 use Rattle.snap_rows.specs.declared.tables.RowAt.{RowAt}
 use Rattle.snap_rows.specs.declared.tables.Row.{Row}
 use Rattle.snap_rows.specs.declared.tables.Row.TheVariants as row
-use Rattle.snap_rows.specs.declared.tables.Stage.{Stage as Turn}
+use Rattle.snap_rows.specs.declared.tables.Stage.{Stage as LeafStage}
 use Rattle.snap_rows.specs.declared.tables.Tables.{Tables}
 use Rattle.snap_rows.specs.Entries.{Parts}
 use Rattle.snap_tables.specs.Drafts.{letter}
@@ -54,7 +54,7 @@ test-no-stop (Equal a b n) r = refl
 test-no-stop (StateTest v es x) r = refl
 
 module _ (v : ℕ) (k : Counts) (ranked : List ArrayAt) (fits : k.comps < 2 ^ 64) (few : k.arrays < 2 ^ 64) (ends : k.switches < 2 ^ 64) where
-  leaves-one : (ss us : List Turn) (os ps : List Parts) → AreStages k ss → AreStages k us → AreOuts k os → AreOuts k ps
+  leaves-one : (ss us : List LeafStage) (os ps : List Parts) → AreStages k ss → AreStages k us → AreOuts k os → AreOuts k ps
       → flat_map stage_words ss ++ flat_map out_words os ≡ flat_map stage_words us ++ flat_map out_words ps → (ss ≡ us) × (os ≡ ps)
   leaves-one ss us os ps fs fu fo fp e =
       let a = lists-one stage_words (IsStage k) opens_stage begins_update (stages-apart k fits few ends) ss us (flat_map out_words os) (flat_map out_words ps) fs.0 fu.0 (outs-no-stage os) (outs-no-update os) (outs-no-stage ps) (outs-no-update ps) e in
@@ -94,7 +94,7 @@ module _ (v : ℕ) (k : Counts) (ranked : List ArrayAt) (fits : k.comps < 2 ^ 64
   test-one row.Stop c u r w said f e = absurd (false-true (sym (test-no-stop u r) ∙ ap (opens_with (codes "stop")) (sym (e ∙ w))))
   test-one (row.Last us os) c u r w said f e = absurd (false-true (sym (test-no-leaf u r) ∙ ap (opens_with (codes "leaf")) (sym (e ∙ w))))
 
-  leaf-one : (b : Row) (us : List Turn) (ps : List Parts) → IsRowOf v k ranked b → IsRowOf v k ranked (row.Leaf us ps) → row_words b ≡ row_words (row.Leaf us ps) → b ≡ row.Leaf us ps
+  leaf-one : (b : Row) (us : List LeafStage) (ps : List Parts) → IsRowOf v k ranked b → IsRowOf v k ranked (row.Leaf us ps) → row_words b ≡ row_words (row.Leaf us ps) → b ≡ row.Leaf us ps
   leaf-one (row.Field t y z) us ps f g e = absurd (false-true (sym (test-no-leaf t (decimal y ∷ decimal z ∷ [])) ∙ ap (opens_with (codes "leaf")) e))
   leaf-one (row.State t y z) us ps f g e = absurd (false-true (sym (test-no-leaf t (decimal y ∷ decimal z ∷ [])) ∙ ap (opens_with (codes "leaf")) e))
   leaf-one (row.Go x) us ps f g e = absurd (false-true (ap (opens_with (codes "leaf")) e))

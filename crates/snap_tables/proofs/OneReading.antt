@@ -8,7 +8,7 @@ use Rattle.snap_rows.specs.declared.tables.Rule.TheVariants.{Link, Loop, Kind, O
 use Rattle.snap_rows.specs.declared.tables.Spot.{Spot}
 use Rattle.snap_rows.specs.declared.tables.Spot.TheVariants as spot
 use Rattle.snap_rows.specs.declared.tables.Tables.{Tables}
-use Rattle.snap_rows.specs.Rules.{IsBefore, IsFirstBroken, IsValid, rule_number}
+use Rattle.snap_rows.specs.Rules.{PrecedesSpot, IsFirstBroken, IsValid, rule_number}
 use Rattle.snap_tables.specs.Drafts.{IsNoFirst}
 use Rattle.snap_tables.specs.Exact.{ReadsEach, ReadsOneWay}
 use Rattle.snap_tables.specs.Lines.{Begins, Follows, IsBadLine, IsBeginning, IsRead, IsWhole, at_first, behind_beginning, behind_last, front_text, item_line, line_of, lines_of, passed, with_item}
@@ -45,9 +45,9 @@ numbers : {P : Type 0} (i j : ℕ) → (i < j → P) → (i ≡ j → P) → (j 
 numbers i j less same more = ⊎_elim less (λ ge. ⊎_elim more (λ other. same (omega arith)) (cases_lt j i)) (cases_lt i j)
 
 data Order' (x y : Spot) : Type 0 where
-  before : IsBefore x y → Order' x y
+  before : PrecedesSpot x y → Order' x y
   same : x ≡ y → Order' x y
-  after : IsBefore y x → Order' x y
+  after : PrecedesSpot y x → Order' x y
 
 order : (x y : Spot) → Order' x y
 order (spot.Hop i) (spot.Hop j) = numbers i j before (λ e. same (ap spot.Hop e)) after

@@ -11,7 +11,7 @@ use Rattle.snap_rows.specs.declared.tables.Row.{Row}
 use Rattle.snap_rows.specs.declared.tables.Row.TheVariants.{Stop}
 use Rattle.snap_rows.specs.declared.tables.RowAt.{RowAt}
 use Rattle.snap_rows.specs.declared.tables.Tables.{Tables}
-use Rattle.snap_rows.specs.Form.{IsInForm, IsRowAtInForm, switch_count}
+use Rattle.snap_rows.specs.Form.{IsWellFormed, IsRowAtWellFormed, switch_count}
 use Rattle.snap_tables.specs.RowParts.{ending_of, ending_text, front_text, placed_line}
 use Rattle.snap_tables.specs.Text.{row_line, row_words, spaced, text, text_with}
 use Rattle.snap_tables.specs.declared.row_parts.RowParts.{RowParts}
@@ -48,11 +48,11 @@ module _ (t : Tables) (bodies : List Row) (parts : RowParts) (fronts : parts.fro
       let tail = same_lines rest (λ i d l. at (suc i) d (omega (arith, l))) (λ i d l. within (suc i) d (omega (arith, l))) in
       λ i. head i ++ tail i
 
-  module _ (rows : List Placed) (are : t.rows ≡ map (placed bodies) rows) (form : IsInForm t) (within : All (IsPlaced bodies) rows) where
+  module _ (rows : List Placed) (are : t.rows ≡ map (placed bodies) rows) (form : IsWellFormed t) (within : All (IsPlaced bodies) rows) where
     at_low : All (λ (p : Placed). p.at < switch_count t) rows
     at_low i d l =
         let e = get_or-map (placed bodies) rows i d (placed bodies d) l in
-        let all = subst (All (IsRowAtInForm t)) are form.rows in
+        let all = subst (All (IsRowAtWellFormed t)) are form.rows in
         subst (λ (r : RowAt). r.at < switch_count t) e (all i (placed bodies d) (let m = length-map rows (placed bodies) in omega (arith, m, l))).at
 
     pub same_text : text_with t (flat_map (placed_line parts bodies) rows) ≡ text t

@@ -12,7 +12,7 @@ use Rattle.snap_core.specs.declared.policy.Atom.{Atom}
 use Rattle.snap_core.specs.declared.policy.Op.{Op}
 use Rattle.snap_core.specs.declared.policy.Op.TheVariants.{Put, Add}
 use Rattle.snap_core.specs.declared.policy.Update.{Update}
-use Rattle.snap_rows.specs.declared.tables.Stage.{Stage as Turn}
+use Rattle.snap_rows.specs.declared.tables.Stage.{Stage as LeafStage}
 use Rattle.snap_rows.specs.Entries.{Parts}
 use Rattle.snap_tables.specs.Text.{Words, op_word, out_words, part_word, stage_words, update_words}
 use Rattle.snap_tables.specs.Laws.{IsPart, IsUpdateOf}
@@ -93,7 +93,7 @@ module _ (k : Counts) (fits : k.comps < 2 ^ 64) (few : k.arrays < 2 ^ 64) (ends 
     stops = out-stops;
   }
 
-  pub stages-apart : AreApart {X = Turn} stage_words (IsStage k) opens_stage begins_update
+  pub stages-apart : AreApart {X = LeafStage} stage_words (IsStage k) opens_stage begins_update
   stages-apart = record {
     shows = λ x more. refl;
     one = λ x y m n fx fy qm qn e.
@@ -154,7 +154,7 @@ module _ (k : Counts) (fits : k.comps < 2 ^ 64) (ws : Words) where
 
 module _ (k : Counts) (fits : k.comps < 2 ^ 64) (few : k.arrays < 2 ^ 64) (ends : k.switches < 2 ^ 64) (ws : Words) where
   module _ (behind : Words) (open' : opened (codes "at") ws ≡ Some behind) where
-    at-behind : (x : Turn) (left : Words) → ws ≡ stage_words x ++ left → behind ≡ decimal x.at ∷ (flat_map update_words x.ups ++ left)
+    at-behind : (x : LeafStage) (left : Words) → ws ≡ stage_words x ++ left → behind ≡ decimal x.at ∷ (flat_map update_words x.ups ++ left)
     at-behind x left same = tail-same (codes "at") (codes "at") behind (decimal x.at ∷ (flat_map update_words x.ups ++ left)) (sym (opened-some (codes "at") ws behind open') ∙ same)
 
     pub stage-nowhere : taken (below_said k.switches) behind ≡ None → IsNoPiece stage_words (IsStage k) begins_update ws
@@ -166,7 +166,7 @@ module _ (k : Counts) (fits : k.comps < 2 ^ 64) (few : k.arrays < 2 ^ 64) (ends 
       there : (w : List ℕ) × (behind ≡ w ∷ rest) × (below_said k.switches w ≡ Some at)
       there = taken-some (below_said k.switches) behind (at, rest) said
 
-      ups-behind : (x : Turn) (left : Words) → ws ≡ stage_words x ++ left → rest ≡ flat_map update_words x.ups ++ left
+      ups-behind : (x : LeafStage) (left : Words) → ws ≡ stage_words x ++ left → rest ≡ flat_map update_words x.ups ++ left
       ups-behind x left same = tail-same there.0 (decimal x.at) rest (flat_map update_words x.ups ++ left) (sym there.1 ∙ at-behind x left same)
 
       pub stage-fails : FailsAfter {X = Update} update_words (IsUpdateOf k.comps k.arrays) begins_update never rest → IsNoPiece stage_words (IsStage k) begins_update ws

@@ -11,13 +11,13 @@ use Rattle.snap_rows.specs.declared.tables.Rule.{Rule}
 use Rattle.snap_rows.specs.declared.tables.Spot.{Spot}
 use Rattle.snap_rows.specs.declared.tables.Spot.TheVariants as spot
 use Rattle.snap_rows.specs.declared.tables.Tables.{Tables}
-use Rattle.snap_rows.specs.Form.{IsInForm}
+use Rattle.snap_rows.specs.Form.{IsWellFormed}
 use Rattle.snap_rows.specs.Rules.{IsFirstBroken, IsValid, Keeps}
 use Rattle.snap_tables.specs.Joins.{Lacks, join}
 use Rattle.snap_tables.specs.Text.{Words, first_line, last_line, rank_words, row_words, spaced, text}
 use Rattle.snap_tables.specs.Drafts.{ArePlaces, IsFirstSplit, IsItem, IsKept, IsLineFault, IsNoFirst, IsNone, IsPutLine, IsReadTo, first_body, is_last, place_of, tables_of}
 use Rattle.snap_tables.specs.Lines.{Begins, Breaks, Follows, IsBadLine, at_first, behind_beginning, behind_last, IsBeginning, IsRead, IsWhole, Passes, counts_of, front_text, is_ready, item_body, item_line, line_of, lines_of, passed, with_item}
-use Rattle.snap_tables.specs.declared.draft.Draft.{Draft}
+use Rattle.snap_tables.specs.declared.draft.TablesDraft.{TablesDraft}
 use Rattle.snap_tables.specs.declared.fault.TablesFault.{TablesFault}
 use Rattle.snap_tables.specs.declared.fault.TablesFault.TheVariants as fault
 use Rattle.snap_tables.specs.declared.item.Item.{Item}
@@ -173,14 +173,14 @@ module _ (t : Tables) (p : Places) (are : ArePlaces t p) where
   place-small rule (spot.Row i) h = omega (arith, are.3, within t.rows i _ h)
 
 -- one turn of the reading loop
-module _ (bytes rest : List ℕ) (d : Draft) (begins : Begins bytes (tables_of d) rest) (line behind : List ℕ) (split : parts_by is_lf rest ≡ line ∷ parts_by is_lf behind) where
+module _ (bytes rest : List ℕ) (d : TablesDraft) (begins : Begins bytes (tables_of d) rest) (line behind : List ℕ) (split : parts_by is_lf rest ≡ line ∷ parts_by is_lf behind) where
   pub fault-read : (number : ℕ) → number ≡ lines_of (tables_of d) + 1 → is_last (tables_of d) line ≡ false → (e : TablesFault) → IsLineFault d number line e → IsRead bytes (Err e)
   fault-read number same other (fault.Line l) h = subst (IsBadLine bytes) (sym (h.0 ∙ same)) (bad-line bytes rest (tables_of d) begins line behind split h.1 other)
   fault-read number same other (fault.Limit which n) h = passes bytes rest (tables_of d) begins line behind split h.0 h.1 which n h.2
   fault-read number same other (fault.Broken rule l) h = absurd h
   fault-read number same other fault.NoMemory h = tt
 
-  module _ (e : Draft) (put : IsPutLine d line e) where
+  module _ (e : TablesDraft) (put : IsPutLine d line e) where
     pub put-begins : Begins bytes (tables_of e) behind
     put-begins =
         let p = put.2 in
@@ -204,17 +204,17 @@ module _ (bytes rest : List ℕ) (d : Draft) (begins : Begins bytes (tables_of d
     pub read-past : (number : ℕ) → number ≡ lines_of (tables_of d) + 2 → behind ≢ [] → (e : TablesFault) → e ≡ fault.Line number → IsRead bytes (Err e)
     read-past number same more e is = subst (λ e. IsRead bytes (Err e)) (sym is) (subst (IsBadLine bytes) (sym same) (bad-behind bytes rest (tables_of d) begins line behind split last more))
 
-pub read-nothing : (bytes rest : List ℕ) (d : Draft) → Begins bytes (tables_of d) rest → parts_by is_lf rest ≡ rest ∷ [] → (number : ℕ) → number ≡ lines_of (tables_of d) + 1 → IsBadLine bytes number
+pub read-nothing : (bytes rest : List ℕ) (d : TablesDraft) → Begins bytes (tables_of d) rest → parts_by is_lf rest ≡ rest ∷ [] → (number : ℕ) → number ≡ lines_of (tables_of d) + 1 → IsBadLine bytes number
 read-nothing bytes rest d begins e number same = subst (IsBadLine bytes) (sym same) (bad-lf bytes rest (tables_of d) begins e)
 
 -- ---- the whole text
-pub read-form : (bytes : List ℕ) (d : Draft) → IsReadTo bytes d → IsInForm (tables_of d)
+pub read-form : (bytes : List ℕ) (d : TablesDraft) → IsReadTo bytes d → IsWellFormed (tables_of d)
 read-form bytes d r = in-form (tables_of d) r.beginning r.whole
 
-pub read-breaks : (bytes : List ℕ) (d : Draft) (p : Places) → IsReadTo bytes d → ArePlaces (tables_of d) p → (rule : Rule) (s : Spot) → IsFirstBroken (tables_of d) rule s → Breaks bytes rule (place_of p s)
+pub read-breaks : (bytes : List ℕ) (d : TablesDraft) (p : Places) → IsReadTo bytes d → ArePlaces (tables_of d) p → (rule : Rule) (s : Spot) → IsFirstBroken (tables_of d) rule s → Breaks bytes rule (place_of p s)
 read-breaks bytes d p r are rule s first = record { tables = tables_of d; spot = s; whole = r.text; beginning = r.beginning; is_whole = r.whole; form = read-form bytes d r; first = first; place = place-line (tables_of d) p are s }
 
-pub read-valid : (bytes : List ℕ) (d : Draft) (t : Tables) → IsReadTo bytes d → t ≡ tables_of d → IsValid t → IsRead bytes (Ok t)
+pub read-valid : (bytes : List ℕ) (d : TablesDraft) (t : Tables) → IsReadTo bytes d → t ≡ tables_of d → IsValid t → IsRead bytes (Ok t)
 read-valid bytes d t r same valid =
     let here : IsRead bytes (Ok (tables_of d)) = (r.text, r.beginning, r.whole, read-form bytes d r, subst IsValid same valid) in
     subst (λ x. IsRead bytes (Ok x)) (sym same) here

@@ -16,10 +16,10 @@ use Rattle.snap_core.specs.Fits.{AtomFits, IndexFits, OpFits}
 use Rattle.snap_core.specs.Tests.{IsRisingOut, TermFits, TestFits}
 use Rattle.snap_rows.specs.declared.tables.Row.{Row}
 use Rattle.snap_rows.specs.declared.tables.Row.TheVariants as row
-use Rattle.snap_rows.specs.declared.tables.Stage.{Stage as Turn}
+use Rattle.snap_rows.specs.declared.tables.Stage.{Stage as LeafStage}
 use Rattle.snap_rows.specs.declared.tables.Tables.{Tables}
 use Rattle.snap_rows.specs.Entries.{Parts}
-use Rattle.snap_rows.specs.Form.{Alternate, AlternateFrom, AreOutsInForm, IsFieldTest, IsIndexInForm, IsOpInForm, IsPartsInForm, IsRowInForm, IsStateTest, IsTurnInForm, IsUpdateInForm, RanksRise, comps, parts_cmp}
+use Rattle.snap_rows.specs.Form.{Alternate, AlternateFrom, AreOutsWellFormed, IsFieldTest, IsIndexWellFormed, IsOpWellFormed, IsPartsWellFormed, IsRowWellFormed, IsStateTest, IsLeafStageWellFormed, IsUpdateWellFormed, RanksRise, comps, parts_cmp}
 use Rattle.snap_core.specs.Ranges.{AtomInRange, OpInRange, OutInRange, TermInRange, TestInRange, UpdateInRange}
 use Rattle.snap_tables.specs.Ranges.{RowInRange, UpsInRange}
 use Rattle.snap_tables.specs.Laws.{IsAtom, IsIndex, IsOp, IsTerm, IsTestOf, IsUpdateOf}
@@ -42,11 +42,11 @@ rises (p ∷ q ∷ o) h = and_from (nat_lt p.0 q.0) (is_adjacent part_less (q �
 apart-of : (a b : ℕ) → b ≢ a → not (a == b) ≡ true
 apart-of a b other = ap not (ne_eqb a b (λ e. other (sym e)))
 
-apart-from : (s : Turn) (ss : List Turn) → AlternateFrom s.at ss → is_adjacent stands_apart (s ∷ ss) ≡ true
+apart-from : (s : LeafStage) (ss : List LeafStage) → AlternateFrom s.at ss → is_adjacent stands_apart (s ∷ ss) ≡ true
 apart-from s [] h = refl
 apart-from s (u ∷ ss) h = and_from (stands_apart s u) (is_adjacent stands_apart (u ∷ ss)) (apart-of s.at u.at h.0) (apart-from u ss h.1)
 
-stand-apart : (ss : List Turn) → Alternate ss → is_adjacent stands_apart ss ≡ true
+stand-apart : (ss : List LeafStage) → Alternate ss → is_adjacent stands_apart ss ≡ true
 stand-apart [] h = refl
 stand-apart (s ∷ ss) h = apart-from s ss h
 
@@ -55,29 +55,29 @@ module _ (t : Tables) where
   atom-is (Num n) f s = s
   atom-is (Comp c) f s = f
 
-  index-is : (es : List Atom) → IndexFits (comps t) es → IsIndexInForm es → All AtomInRange es → IsIndex (comps t) es
+  index-is : (es : List Atom) → IndexFits (comps t) es → IsIndexWellFormed es → All AtomInRange es → IsIndex (comps t) es
   index-is es f l s = ((λ i d m. atom-is (get_or es i d) (f i d m) (s i d m)), l.0, l.1)
 
-  op-is : (o : Op) → OpFits (comps t) o → IsOpInForm o → OpInRange o → IsOp (comps t) o
+  op-is : (o : Op) → OpFits (comps t) o → IsOpWellFormed o → OpInRange o → IsOp (comps t) o
   op-is (Put a) f l s = atom-is a f s
   op-is (Add n) f l s = (l, s)
 
-  update-is : (u : Update) → IsUpdateInForm t u → UpdateInRange u → IsUpdateOf (comps t) (length t.arrays) u
+  update-is : (u : Update) → IsUpdateWellFormed t u → UpdateInRange u → IsUpdateOf (comps t) (length t.arrays) u
   update-is u f s = (f.fits.var, index-is u.index f.fits.index f.index s.index, op-is u.op f.fits.op f.op s.op)
 
-  out-is : (o : Parts) → IsPartsInForm t o → OutInRange o → IsOut (counts_of t) o
+  out-is : (o : Parts) → IsPartsWellFormed t o → OutInRange o → IsOut (counts_of t) o
   out-is o f s = (
     (λ i d l. ((f.fits i d l).comp, atom-is (get_or o i d).1 (f.fits i d l).atom (s i d l), f.changes i d l)),
     rises o f.rising,
   )
 
-  outs-are : (os : List Parts) → AreOutsInForm t os → All OutInRange os → AreOuts (counts_of t) os
+  outs-are : (os : List Parts) → AreOutsWellFormed t os → All OutInRange os → AreOuts (counts_of t) os
   outs-are os f s = ((λ i d l. out-is (get_or os i d) (f.each i d l) (s i d l)), sorted-adjacent parts_cmp os f.rising)
 
-  ups-are : (us : List Update) → All (IsUpdateInForm t) us → All UpdateInRange us → All (IsUpdateOf (comps t) (length t.arrays)) us
+  ups-are : (us : List Update) → All (IsUpdateWellFormed t) us → All UpdateInRange us → All (IsUpdateOf (comps t) (length t.arrays)) us
   ups-are us f s = λ i d l. update-is (get_or us i d) (f i d l) (s i d l)
 
-  stage-is : (s : Turn) → IsTurnInForm t s → UpsInRange s → IsStage (counts_of t) s
+  stage-is : (s : LeafStage) → IsLeafStageWellFormed t s → UpsInRange s → IsStage (counts_of t) s
   stage-is s f b = (f.at, f.some, ups-are s.ups f.each b)
 
   -- ranks that never fall
@@ -116,7 +116,7 @@ module _ (t : Tables) where
   state-test (Equal a b n) f k s = absurd k
   state-test (StateTest v es x) f k s = ((k.0, index-is es f.0 k.1 s.0, term-is x f.1 s.1), refl)
 
-  pub row-is : (b : Row) → IsRowInForm t b → RowInRange b → IsRowOf t.version (counts_of t) t.arrays b
+  pub row-is : (b : Row) → IsRowWellFormed t b → RowInRange b → IsRowOf t.version (counts_of t) t.arrays b
   row-is (row.Field x y z) f s = let k = field-test x f.0 f.1 s.0 in (k.0, k.1, s.1, s.2)
   row-is (row.State x y z) f s = let k = state-test x f.0 f.1 s.0 in (k.0, k.1, s.1, s.2)
   row-is (row.Go x) f s = (eq-eqb t.version 1 f.0, f.1)

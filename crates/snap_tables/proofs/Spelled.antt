@@ -18,9 +18,9 @@ use Rattle.snap_core.specs.Names.{IsName, is_switch_name}
 use Rattle.snap_rows.specs.declared.tables.ArrayAt.{ArrayAt}
 use Rattle.snap_rows.specs.declared.tables.Tables.{Tables}
 use Rattle.snap_core.specs.Ports.{link_cmp}
-use Rattle.snap_rows.specs.Form.{IsArrayInForm, IsHopInForm, IsInForm, IsLinkInForm, IsPortInForm, IsRowAtInForm, row_cmp}
+use Rattle.snap_rows.specs.Form.{IsArrayWellFormed, IsHopWellFormed, IsWellFormed, IsLinkWellFormed, IsPortWellFormed, IsRowAtWellFormed, row_cmp}
 use Rattle.snap_tables.specs.Ranges.{RowAtInRange, TablesInRange}
-use Rattle.snap_tables.specs.Entries.{AreInTurn, IsNextArray, IsNextField, IsNextLink, IsNextPort, IsNextRow, IsNextSwitch, all_declared, are_new, array_fits, declared, is_above, is_field_at, is_plain_field, link_less}
+use Rattle.snap_tables.specs.Entries.{AreInSequence, IsNextArray, IsNextField, IsNextLink, IsNextPort, IsNextRow, IsNextSwitch, all_declared, are_new, array_fits, declared, is_above, is_field_at, is_plain_field, link_less}
 use Rattle.snap_tables.specs.ReadBack.{AreSpelled}
 use Rattle.snap_tables.specs.Laws.{IsRank}
 use Rattle.snap_tables.specs.Lines.{IsBeginning, counts_of, has, has_all_hops, is_ready, last_section}
@@ -45,7 +45,7 @@ field-at [] f zs e = plain-of (codes "inport") f (head-same f (plain_field (code
 field-at (g ∷ []) f zs e = plain-of (codes "outport") f (head-same f (plain_field (codes "outport")) (take 0 zs) [] (tail-same g (plain_field (codes "inport")) (f ∷ take 0 zs) (plain_field (codes "outport") ∷ []) e))
 field-at (g ∷ h ∷ ys) f zs e = far-field (length (g ∷ h ∷ ys)) f (omega arith)
 
-fields-turn : (fs : List Field) → IsFields fs → All (λ (f : Field). IsName f.name) fs → AreInTurn IsNextField fs
+fields-turn : (fs : List Field) → IsFields fs → All (λ (f : Field). IsName f.name) fs → AreInSequence IsNextField fs
 fields-turn fs h names = turns IsNextField fs (λ ys f zs e. (
   all-at (λ (g : Field). IsName g.name) fs ys f zs e names,
   all-at (λ (g : Field). PrefixFits g.prefix) fs ys f zs e h.prefixes,
@@ -78,28 +78,28 @@ has-some : {X : Type 0} (xs : List X) → 1 ≤ length xs → has xs ≡ true
 has-some [] h = absurd (omega (arith, h))
 has-some (x ∷ xs) h = refl
 
-module _ (t : Tables) (f : IsInForm t) (b : TablesInRange t) where
-  switches-turn : AreInTurn IsNextSwitch t.switches
+module _ (t : Tables) (f : IsWellFormed t) (b : TablesInRange t) where
+  switches-turn : AreInSequence IsNextSwitch t.switches
   switches-turn = turns IsNextSwitch t.switches (λ ys x zs e. (
     all-at (λ name. IsTrue (is_switch_name name)) t.switches ys x zs e f.switch_names,
     new-of ys x zs (subst (IsDistinct bytes_eq) e f.switches_differ),
   ))
 
-  arrays-turn : AreInTurn (IsNextArray t.version (length t.switches)) t.arrays
+  arrays-turn : AreInSequence (IsNextArray t.version (length t.switches)) t.arrays
   arrays-turn = turns (IsNextArray t.version (length t.switches)) t.arrays (λ ys a zs e.
-      let form = all-at (IsArrayInForm t) t.arrays ys a zs e f.arrays in
+      let form = all-at (IsArrayWellFormed t) t.arrays ys a zs e f.arrays in
       (form.name, form.at, rank-is t.version a.rank f.version form.rank form.one, array-new ys a zs (subst (λ l. IsDistinct bytes_eq (map (λ (c : ArrayAt). c.name) l)) e f.arrays_differ)))
 
-  links-turn : AreInTurn (IsNextLink (length t.switches)) t.links
+  links-turn : AreInSequence (IsNextLink (length t.switches)) t.links
   links-turn = turns (IsNextLink (length t.switches)) t.links (λ ys l zs e.
-      let form = all-at (IsLinkInForm t) t.links ys l zs e f.links in
+      let form = all-at (IsLinkWellFormed t) t.links ys l zs e f.links in
       let lesser = form.lesser in
       let below = form.below in
       (omega (arith, lesser, below), below, and_from (nat_lt l.0 l.1) (is_above link_less ys l) (lt-ltb l.0 l.1 lesser) (sorted-above link_cmp link-total ys l zs (subst (IsStrictlySortedBy link_cmp) e f.links_rise))))
 
-  ports-turn : AreInTurn (IsNextPort (length t.switches)) t.ports
+  ports-turn : AreInSequence (IsNextPort (length t.switches)) t.ports
   ports-turn = turns (IsNextPort (length t.switches)) t.ports (λ ys p zs e.
-      let form = all-at (IsPortInForm t) t.ports ys p zs e f.ports in
+      let form = all-at (IsPortWellFormed t) t.ports ys p zs e f.ports in
       let rise = sorted-unmap (λ (q : PortAt). q.port) t.ports f.ports_rise in (
         form.some,
         all-at (λ (q : PortAt). q.port < 2 ^ 32) t.ports ys p zs e b.ports,
@@ -107,14 +107,14 @@ module _ (t : Tables) (f : IsInForm t) (b : TablesInRange t) where
         sorted-above (λ (q r : PortAt). nat_cmp q.port r.port) (on-total (λ (q : PortAt). q.port) nat_cmp_total) ys p zs (subst (IsStrictlySortedBy (λ (q r : PortAt). nat_cmp q.port r.port)) e rise),
       ))
 
-  rows-turn : AreInTurn (IsNextRow t.version (counts_of t) t.arrays) t.rows
+  rows-turn : AreInSequence (IsNextRow t.version (counts_of t) t.arrays) t.rows
   rows-turn = turns (IsNextRow t.version (counts_of t) t.arrays) t.rows (λ ys r zs e.
-      let form = all-at (IsRowAtInForm t) t.rows ys r zs e f.rows in
+      let form = all-at (IsRowAtWellFormed t) t.rows ys r zs e f.rows in
       let bits = all-at RowAtInRange t.rows ys r zs e b.rows in
       (form.at, bits.number, row-is t r.row form.row bits.row, sorted-above row_cmp row-total ys r zs (subst (IsStrictlySortedBy row_cmp) e f.rows_rise)))
 
   good-hops : All (IsGood (length t.switches)) t.hops
-  good-hops = All-weaker (IsHopInForm t) (IsGood (length t.switches)) (λ g h. record { from = h.from; target = h.target; other = h.other; next = h.next }) t.hops f.hops
+  good-hops = All-weaker (IsHopWellFormed t) (IsGood (length t.switches)) (λ g h. record { from = h.from; target = h.target; other = h.other; next = h.next }) t.hops f.hops
 
   ready : (n : ℕ) → is_ready t n ≡ true
   ready n =

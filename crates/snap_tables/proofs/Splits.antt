@@ -10,17 +10,17 @@ use Rattle.std.specs.Str.{bytes_eq}
 use Rattle.std.proofs.lemmas.Bool.{and_from}
 use Rattle.std.proofs.lemmas.List.Elements.{All-head}
 use Rattle.snap_core.proofs.Elements.{All-back}
-use Rattle.snap_tables.specs.Entries.{AllFrom, AreInTurn, are_new, is_above, is_new}
+use Rattle.snap_tables.specs.Entries.{AllFrom, AreInSequence, are_new, is_above, is_new}
 use Rattle.snap_tables.specs.Pieces.{is_adjacent}
 use Rattle.snap_tables.proofs.Turns.{above-tail, bytes-other}
 
--- entries are in turn where each may come behind those before it
+-- entries are in sequence where each may come behind those before it
 module _ {X : Type 0} (IsNext : List X → X → Type 0) where
   turns-from : (before xs : List X) → ((ys : List X) (x : X) (zs : List X) → before ++ xs ≡ ys ++ (x ∷ zs) → IsNext ys x) → AllFrom IsNext before xs
   turns-from before [] f = tt
   turns-from before (x ∷ xs) f = (f before x xs refl, turns-from (before ++ (x ∷ [])) xs (λ ys y zs e. f ys y zs (sym (append_assoc before (x ∷ []) xs) ∙ e)))
 
-  pub turns : (xs : List X) → ((ys : List X) (x : X) (zs : List X) → xs ≡ ys ++ (x ∷ zs) → IsNext ys x) → AreInTurn IsNext xs
+  pub turns : (xs : List X) → ((ys : List X) (x : X) (zs : List X) → xs ≡ ys ++ (x ∷ zs) → IsNext ys x) → AreInSequence IsNext xs
   turns xs f = turns-from [] xs f
 
 pub all-middle : {X : Type 0} (P : X → Type 0) (ys : List X) (x : X) (zs : List X) → AllByRecursion P (ys ++ (x ∷ zs)) → P x

@@ -7,7 +7,7 @@ use Rattle.std.proofs.lemmas.List.{length_push}
 use Rattle.snap_core.specs.declared.program.Which.{Which}
 use Rattle.snap_rows.specs.declared.tables.Tables.{Tables}
 use Rattle.snap_tables.specs.Text.{Words, array_line, field_line, first_line, hop_line, link_line, port_line, row_line, switch_line}
-use Rattle.snap_tables.specs.Entries.{AreInTurn, IsNextArray, IsNextField, IsNextHop, IsNextLink, IsNextPort, IsNextRow, IsNextSwitch}
+use Rattle.snap_tables.specs.Entries.{AreInSequence, IsNextArray, IsNextField, IsNextHop, IsNextLink, IsNextPort, IsNextRow, IsNextSwitch}
 use Rattle.snap_tables.specs.Lines.{Follows, IsBeginning, counts_of, front_text, has, is_ready, item_line, last_section, lines_of, over, passed, section, with_item}
 use Rattle.snap_tables.specs.declared.item.Item.{Item}
 use Rattle.snap_tables.specs.declared.item.Item.TheVariants as item
@@ -163,8 +163,8 @@ module _ (t : Tables) (b : IsBeginning t) where
   ready-put : (it : Item) → Follows t it → is_ready (with_item t it) (last_section (with_item t it)) ≡ true
   ready-put it f = ap (is_ready (with_item t it)) (last-put it (later t (section it) f.order)) ∙ ready-same it ∙ f.ready
 
-  none-yet : {X : Type 0} (IsNext : List X → X → Type 0) (xs : List X) → xs ≡ [] → AreInTurn IsNext xs
-  none-yet IsNext xs e = subst (AreInTurn IsNext) (sym e) tt
+  none-yet : {X : Type 0} (IsNext : List X → X → Type 0) (xs : List X) → xs ≡ [] → AreInSequence IsNext xs
+  none-yet IsNext xs e = subst (AreInSequence IsNext) (sym e) tt
 
   -- it is a beginning
   pub beginning-put : (it : Item) → Follows t it → passed (with_item t it) it ≡ None → IsBeginning (with_item t it)

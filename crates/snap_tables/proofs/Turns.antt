@@ -1,4 +1,4 @@
--- Lists of entries that came in turn: what holds of each, and of the whole.
+-- Lists of entries that came in sequence: what holds of each, and of the whole.
 use Rattle.std.proofs.Common.{◌≡◌, ℕ, suc, ◌-◌, Bool, true, false, List, [], ◌∷◌, ◌++◌, length, refl, sym, ap, subst, ◌∙◌, arith, append-nil, append_assoc}
 use Rattle.std.specs.Prelude.{◌||◌, not, slice_get}
 use Rattle.std.specs.List.{All, AllByRecursion, IsDistinct, list_any}
@@ -18,7 +18,7 @@ use Rattle.snap_core.specs.declared.policy.Atom.TheVariants.{Num, Comp}
 use Rattle.snap_rows.specs.declared.tables.RowAt.{RowAt}
 use Rattle.snap_core.specs.Ports.{link_cmp}
 use Rattle.snap_rows.specs.Form.{atom_cmp, parts_cmp, row_cmp}
-use Rattle.snap_tables.specs.Entries.{AllFrom, AreInTurn, is_above, is_new}
+use Rattle.snap_tables.specs.Entries.{AllFrom, AreInSequence, is_above, is_new}
 use Rattle.snap_tables.specs.Pieces.{is_adjacent}
 use Rattle.snap_tables.proofs.PieceLemmas.{all-push, false-true}
 use Rattle.snap_core.proofs.Orders.{is_lt-true}
@@ -28,7 +28,7 @@ module _ {X : Type 0} (IsNext : List X → X → Type 0) where
   push-from before [] x all next = (subst (λ l. IsNext l x) (append-nil before) next, tt)
   push-from before (y ∷ ys) x all next = (all.0, push-from (before ++ (y ∷ [])) ys x all.1 (subst (λ l. IsNext l x) (sym (append_assoc before (y ∷ []) ys)) next))
 
-  pub turn-push : (xs : List X) (x : X) → AreInTurn IsNext xs → IsNext xs x → AreInTurn IsNext (xs ++ (x ∷ []))
+  pub turn-push : (xs : List X) (x : X) → AreInSequence IsNext xs → IsNext xs x → AreInSequence IsNext (xs ++ (x ∷ []))
   turn-push xs x all next = push-from [] xs x all next
 
   module _ (P : List X → Type 0) (step : (ys : List X) (x : X) → P ys → IsNext ys x → P (ys ++ (x ∷ []))) where
@@ -36,10 +36,10 @@ module _ {X : Type 0} (IsNext : List X → X → Type 0) where
     grown before [] p all = subst P (sym (append-nil before)) p
     grown before (x ∷ xs) p all = subst P (append_assoc before (x ∷ []) xs) (grown (before ++ (x ∷ [])) xs (step before x p all.0) all.1)
 
-    pub in-turn : P [] → (xs : List X) → AreInTurn IsNext xs → P xs
+    pub in-turn : P [] → (xs : List X) → AreInSequence IsNext xs → P xs
     in-turn p xs all = grown [] xs p all
 
-  pub each-turn : (Q : X → Type 0) → ((ys : List X) (x : X) → IsNext ys x → Q x) → (xs : List X) → AreInTurn IsNext xs → All Q xs
+  pub each-turn : (Q : X → Type 0) → ((ys : List X) (x : X) → IsNext ys x → Q x) → (xs : List X) → AreInSequence IsNext xs → All Q xs
   each-turn Q f xs all = in-turn (All Q) (λ ys x p n. All-push Q ys x p (f ys x n)) (All-nil Q) xs all
 
 -- orders

@@ -12,7 +12,7 @@ use Rattle.snap_rows.specs.declared.tables.Hop.{Hop}
 use Rattle.snap_rows.specs.declared.tables.RowAt.{RowAt}
 use Rattle.snap_rows.specs.declared.tables.Tables.{Tables}
 use Rattle.snap_tables.specs.Drafts.{no_entries}
-use Rattle.snap_tables.specs.Entries.{AllFrom, AreInTurn, IsNextArray, IsNextField, IsNextHop, IsNextLink, IsNextPort, IsNextRow, IsNextSwitch}
+use Rattle.snap_tables.specs.Entries.{AllFrom, AreInSequence, IsNextArray, IsNextField, IsNextHop, IsNextLink, IsNextPort, IsNextRow, IsNextSwitch}
 use Rattle.snap_tables.specs.Lines.{Follows, IsBeginning, counts_of, front_text, has, has_all_hops, is_ready, item_line, last_section, over, passed, with_item}
 use Rattle.snap_tables.specs.declared.item.Item.{Item}
 use Rattle.snap_tables.specs.declared.item.Item.TheVariants as item
@@ -63,7 +63,7 @@ module _ {X : Type 0} (make : X → Item) (state : List X → Tables) (IsNext' :
             (subst (λ l. Walk (state (before ++ (x ∷ []))) (map make xs) (state l)) shift (section-from (before ++ (x ∷ [])) xs (subst Within (sym shift) w) all.1)),
       )
 
-  section-walk : (xs : List X) → Within xs → AreInTurn IsNext' xs → Walk (state []) (map make xs) (state xs)
+  section-walk : (xs : List X) → Within xs → AreInSequence IsNext' xs → Walk (state []) (map make xs) (state xs)
   section-walk xs w all = section-from [] xs w all
 
 -- sections that have begun are ready

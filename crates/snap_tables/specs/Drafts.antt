@@ -16,13 +16,13 @@ use Rattle.snap_tables.specs.Entries.{IsNextRow, all_declared, array_fits, is_ne
 use Rattle.snap_tables.specs.Reading.{array_said, switch_said}
 use Rattle.snap_tables.specs.Text.{Words, first_line, spaced, text}
 use Rattle.snap_tables.specs.Lines.{Follows, IsBeginning, IsWhole, is_ready, item_body, last_section, lines_of, passed, with_item}
-use Rattle.snap_tables.specs.declared.draft.Draft.{Draft}
+use Rattle.snap_tables.specs.declared.draft.TablesDraft.{TablesDraft}
 use Rattle.snap_tables.specs.declared.fault.TablesFault.{TablesFault}
 use Rattle.snap_tables.specs.declared.fault.TablesFault.TheVariants as fault
 use Rattle.snap_tables.specs.declared.item.Item.{Item}
 use Rattle.snap_tables.specs.declared.item.Item.TheVariants as item
 
-abbrev pub tables_of : Draft → Tables
+abbrev pub tables_of : TablesDraft → Tables
 tables_of d = record {
   version = d.version;
   fields = d.fields.items;
@@ -35,7 +35,7 @@ tables_of d = record {
 }
 
 -- what a draft keeps besides its lists, and how long these are
-pub record IsKept (d : Draft) : Type 0 where
+pub record IsKept (d : TablesDraft) : Type 0 where
   pub comps : d.comps ≡ count d.fields.items
   pub names : d.names.items ≡ all_declared d.fields.items
   pub few_comps : d.comps ≤ 64
@@ -47,10 +47,10 @@ abbrev pub may_come : Tables → ℕ → Bool
 may_come t n = nat_le (last_section t) n && is_ready t n
 
 -- the switch or the array that words say, where one may come behind those of a draft
-abbrev pub switch_next : Draft → Words → Option (List ℕ)
+abbrev pub switch_next : TablesDraft → Words → Option (List ℕ)
 switch_next d ws = kept (may_come (tables_of d) 2) (is_new d.switches.items) (switch_said ws)
 
-abbrev pub array_next : Draft → Words → Option ArrayAt
+abbrev pub array_next : TablesDraft → Words → Option ArrayAt
 array_next d ws = kept (may_come (tables_of d) 3) (array_fits d.arrays.items) (array_said d.version (length d.switches.items) ws)
 
 -- the first byte of an entry's line
@@ -78,7 +78,7 @@ abbrev pub IsNone : Tables → List ℕ → Type 0
 IsNone t line = (it : Item) → Follows t it → line ≢ item_body t.version it
 
 -- an entry stands behind those of a draft, and passes this count, if it passes one
-pub record IsPut (d : Draft) (it : Item) (past : Option (Which × ℕ)) (e : Draft) : Type 0 where
+pub record IsPut (d : TablesDraft) (it : Item) (past : Option (Which × ℕ)) (e : TablesDraft) : Type 0 where
   pub tables : tables_of e ≡ with_item (tables_of d) it
   pub count : past ≡ passed (tables_of e) it
   pub kept : past ≡ None → IsKept e
@@ -114,7 +114,7 @@ abbrev pub is_last : Tables → List ℕ → Bool
 is_last t line = bytes_eq line (codes "end") && is_ready t 8
 
 -- a text is read to its end: it is the text of the draft's tables, which are whole
-pub record IsReadTo (bytes : List ℕ) (d : Draft) : Type 0 where
+pub record IsReadTo (bytes : List ℕ) (d : TablesDraft) : Type 0 where
   pub beginning : IsBeginning (tables_of d)
   pub whole : IsWhole (tables_of d)
   pub text : bytes ≡ text (tables_of d)
@@ -135,11 +135,11 @@ place_of p (spot.Hop i) = p.hops + i
 place_of p (spot.Row i) = p.rows + i
 
 -- an entry that a line says was put, and passes no count
-abbrev pub IsPutLine : Draft → List ℕ → Draft → Type 0
+abbrev pub IsPutLine : TablesDraft → List ℕ → TablesDraft → Type 0
 IsPutLine d line e = (it : Item) × IsItem (tables_of d) line it × IsPut d it None e
 
 -- why a line of this number isn't taken
-abbrev pub IsLineFault : Draft → ℕ → List ℕ → TablesFault → Type 0
+abbrev pub IsLineFault : TablesDraft → ℕ → List ℕ → TablesFault → Type 0
 IsLineFault d number line (fault.Line l) = (l ≡ number) × IsNone (tables_of d) line
 IsLineFault d number line (fault.Limit which n) = (it : Item)
     × IsItem (tables_of d) line it × (passed (with_item (tables_of d) it) it ≡ Some (which, n))

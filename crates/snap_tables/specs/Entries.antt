@@ -85,11 +85,11 @@ abbrev pub next_pair : (switches : ℕ) → ℕ × ℕ → ℕ × ℕ
 next_pair n p = pair_from n p.0 (if p.1 + 1 == p.0 then p.1 + 2 else p.1 + 1)
 
 -- the pair whose turn it is behind these next hops
-abbrev pub turn : (switches : ℕ) → List Hop → ℕ × ℕ
-turn n hs = option_map_or (λ (h : Hop). next_pair n (h.from, h.target)) (slice_get hs (length hs - 1)) (0, 1)
+abbrev pub due_pair : (switches : ℕ) → List Hop → ℕ × ℕ
+due_pair n hs = option_map_or (λ (h : Hop). next_pair n (h.from, h.target)) (slice_get hs (length hs - 1)) (0, 1)
 
 abbrev pub hop_fits : (switches : ℕ) → List Hop → Hop → Bool
-hop_fits n hs h = (h.from == (turn n hs).0) && (h.target == (turn n hs).1)
+hop_fits n hs h = (h.from == (due_pair n hs).0) && (h.target == (due_pair n hs).1)
 
 abbrev pub IsNextHop : (switches : ℕ) → List Hop → Hop → Type 0
 IsNextHop n hs h = (h.from < n) × (h.target < n) × (h.next < n) × (hop_fits n hs h ≡ true)
@@ -105,8 +105,8 @@ abbrev pub AllFrom : {X : Type 0} → (List X → X → Type 0) → List X → L
 AllFrom IsNext before [] = Unit {0}
 AllFrom IsNext before (x ∷ xs) = IsNext before x × AllFrom IsNext (before ++ (x ∷ [])) xs
 
-abbrev pub AreInTurn : {X : Type 0} → (List X → X → Type 0) → List X → Type 0
-AreInTurn IsNext xs = AllFrom IsNext [] xs
+abbrev pub AreInSequence : {X : Type 0} → (List X → X → Type 0) → List X → Type 0
+AreInSequence IsNext xs = AllFrom IsNext [] xs
 
 -- what is said, where it may come and this test holds
 abbrev pub kept : {X : Type 0} → Bool → (X → Bool) → Option X → Option X

@@ -10,7 +10,7 @@ use Rattle.snap_tables.specs.Drafts.{IsNoRowLine, IsRowLine}
 use Rattle.snap_tables.specs.Lines.{counts_of}
 use Rattle.snap_tables.specs.Reading.{words_left}
 use Rattle.snap_tables.specs.Rows.{IsNoRow, IsRowSaid}
-use Rattle.snap_tables.specs.declared.draft.Draft.{Draft}
+use Rattle.snap_tables.specs.declared.draft.TablesDraft.{TablesDraft}
 use Rattle.snap_tables.specs.declared.item.Body.{Body}
 use Rattle.snap_tables.specs.declared.item.Body.TheVariants.{Own, Same}
 use Rattle.snap_tables.specs.declared.item.NextRow.{NextRow}
@@ -43,14 +43,14 @@ abbrev pub WhereSaid : List Said → (ℕ → Counts → List ArrayAt → List R
 WhereSaid said Holds = (v : ℕ) (k : Counts) (ranked : List ArrayAt) (rows : List RowAt) → AreSaid v k ranked rows said → Holds v k ranked rows
 
 -- with this body behind them
-abbrev pub AreSaidBehind : Draft → Counts → List Said → Body → Type 0
+abbrev pub AreSaidBehind : TablesDraft → Counts → List Said → Body → Type 0
 AreSaidBehind d k said b = (r : RowAt) → r.row ≡ body_said d.rows b → AreSaid d.version k d.arrays.items (d.rows ++ r ∷ []) said
 
 -- the body or the row that words say behind a draft, if there is one
-abbrev pub IsBodyIn : Draft → Counts → List (List ℕ) → Option Body → Type 0
+abbrev pub IsBodyIn : TablesDraft → Counts → List (List ℕ) → Option Body → Type 0
 IsBodyIn d k ws said = MatchOption said (IsNoRow d.version k d.arrays.items ws) (λ b. IsRowSaid d.version k d.arrays.items ws (body_said d.rows b))
 
-abbrev pub IsRowIn : Draft → Counts → (line : List ℕ) → Option NextRow → Type 0
+abbrev pub IsRowIn : TablesDraft → Counts → (line : List ℕ) → Option NextRow → Type 0
 IsRowIn d k line said = MatchOption said
     (IsNoRowLine d.version k d.arrays.items d.rows line) (λ r. IsRowLine d.version k d.arrays.items d.rows line (row_next d.rows r))
 

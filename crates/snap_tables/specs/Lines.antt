@@ -7,9 +7,9 @@ use Rattle.snap_rows.specs.declared.tables.Rule.{Rule}
 use Rattle.snap_rows.specs.declared.tables.Spot.{Spot}
 use Rattle.snap_rows.specs.declared.tables.Spot.TheVariants as spot
 use Rattle.snap_rows.specs.declared.tables.Tables.{Tables}
-use Rattle.snap_rows.specs.Form.{IsInForm}
+use Rattle.snap_rows.specs.Form.{IsWellFormed}
 use Rattle.snap_rows.specs.Rules.{IsFirstBroken, IsValid}
-use Rattle.snap_tables.specs.Entries.{AreInTurn, IsNextArray, IsNextField, IsNextHop, IsNextLink, IsNextPort, IsNextRow, IsNextSwitch, turn}
+use Rattle.snap_tables.specs.Entries.{AreInSequence, IsNextArray, IsNextField, IsNextHop, IsNextLink, IsNextPort, IsNextRow, IsNextSwitch, due_pair}
 use Rattle.snap_tables.specs.Text.{first_line, hop_words, last_line, link_words, names_text, port_words, prefix_text, rank_words, row_words, rows_text, spaced, text, ways_text}
 use Rattle.snap_tables.specs.declared.fault.TablesFault.{TablesFault}
 use Rattle.snap_tables.specs.declared.fault.TablesFault.TheVariants.{Line, Limit, Broken, NoMemory}
@@ -74,8 +74,8 @@ last_section t =
 
 -- no pair of switches is without its next hop
 abbrev pub has_all_hops : Tables → Bool
-has_all_hops t = nat_le (length t.switches) (turn (length t.switches) t.hops).0
-    || nat_le (length t.switches) (turn (length t.switches) t.hops).1
+has_all_hops t = nat_le (length t.switches) (due_pair (length t.switches) t.hops).0
+    || nat_le (length t.switches) (due_pair (length t.switches) t.hops).1
 
 -- the sections that must be whole before a section are: two fields, a switch, all next hops. The last line counts as the eighth.
 abbrev pub is_ready : Tables → ℕ → Bool
@@ -103,13 +103,13 @@ passed t (item.Row r) = None
 -- a beginning of tables: each entry is of its form after those before it, and no count is passed
 pub record IsBeginning (t : Tables) : Type 0 where
   pub version : (t.version ≡ 1) ⊎ (t.version ≡ 2)
-  pub fields : AreInTurn IsNextField t.fields
-  pub switches : AreInTurn IsNextSwitch t.switches
-  pub arrays : AreInTurn (IsNextArray t.version (length t.switches)) t.arrays
-  pub links : AreInTurn (IsNextLink (length t.switches)) t.links
-  pub ports : AreInTurn (IsNextPort (length t.switches)) t.ports
-  pub hops : AreInTurn (IsNextHop (length t.switches)) t.hops
-  pub rows : AreInTurn (IsNextRow t.version (counts_of t) t.arrays) t.rows
+  pub fields : AreInSequence IsNextField t.fields
+  pub switches : AreInSequence IsNextSwitch t.switches
+  pub arrays : AreInSequence (IsNextArray t.version (length t.switches)) t.arrays
+  pub links : AreInSequence (IsNextLink (length t.switches)) t.links
+  pub ports : AreInSequence (IsNextPort (length t.switches)) t.ports
+  pub hops : AreInSequence (IsNextHop (length t.switches)) t.hops
+  pub rows : AreInSequence (IsNextRow t.version (counts_of t) t.arrays) t.rows
   pub ready : is_ready t (last_section t) ≡ true
   pub few_comps : count t.fields ≤ 64
   pub few_switches : length t.switches ≤ 256
@@ -166,13 +166,13 @@ pub record Breaks (bytes : List ℕ) (rule : Rule) (line : ℕ) : Type 0 where
   pub whole : bytes ≡ text tables
   pub beginning : IsBeginning tables
   pub is_whole : IsWhole tables
-  pub form : IsInForm tables
+  pub form : IsWellFormed tables
   pub first : IsFirstBroken tables rule spot
   pub place : line ≡ line_of tables spot
 
 -- what is read of a text: tables that it spells, which are valid; or the first thing that is wrong
 abbrev pub IsRead : List ℕ → Result Tables TablesFault → Type 0
-IsRead bytes (Ok t) = (bytes ≡ text t) × IsBeginning t × IsWhole t × IsInForm t × IsValid t
+IsRead bytes (Ok t) = (bytes ≡ text t) × IsBeginning t × IsWhole t × IsWellFormed t × IsValid t
 IsRead bytes (Err (Line l)) = IsBadLine bytes l
 IsRead bytes (Err (Limit which n)) = Passes bytes which n
 IsRead bytes (Err (Broken rule l)) = Breaks bytes rule l

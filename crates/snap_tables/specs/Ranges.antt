@@ -6,10 +6,10 @@ use Rattle.snap_core.specs.Ranges.{OutInRange, TestInRange, UpdateInRange}
 use Rattle.snap_rows.specs.declared.tables.Row.{Row}
 use Rattle.snap_rows.specs.declared.tables.Row.TheVariants as row
 use Rattle.snap_rows.specs.declared.tables.RowAt.{RowAt}
-use Rattle.snap_rows.specs.declared.tables.Stage.{Stage as Turn}
+use Rattle.snap_rows.specs.declared.tables.Stage.{Stage as LeafStage}
 use Rattle.snap_rows.specs.declared.tables.Tables.{Tables}
 
-abbrev pub UpsInRange : Turn → Type 0
+abbrev pub UpsInRange : LeafStage → Type 0
 UpsInRange s = All UpdateInRange s.ups
 
 abbrev pub RowInRange : Row → Type 0

@@ -1,7 +1,7 @@
 -- What is read of the text of tables that were written.
 use Rattle.std.specs.Prelude.{◌≡◌, ◌⊎◌, Result, Ok, Err}
 use Rattle.snap_rows.specs.declared.tables.Tables.{Tables}
-use Rattle.snap_rows.specs.Form.{IsInForm}
+use Rattle.snap_rows.specs.Form.{IsWellFormed}
 use Rattle.snap_rows.specs.Rules.{IsValid}
 use Rattle.snap_tables.specs.Ranges.{TablesInRange}
 use Rattle.snap_tables.specs.Lines.{IsBeginning, IsRead, IsWhole}
@@ -15,7 +15,7 @@ IsReadBack t = (r : Result Tables TablesFault) → IsRead (text t) r → (r ≡ 
 
 -- tables in form, with numbers of 64 bits, are spelled by lines in their order
 abbrev pub AreSpelled : Type 0
-AreSpelled = (t : Tables) → IsInForm t → TablesInRange t → IsBeginning t × IsWhole t
+AreSpelled = (t : Tables) → IsWellFormed t → TablesInRange t → IsBeginning t × IsWhole t
 
 abbrev pub AreReadBack : Type 0
-AreReadBack = (t : Tables) → IsInForm t → IsValid t → TablesInRange t → IsReadBack t
+AreReadBack = (t : Tables) → IsWellFormed t → IsValid t → TablesInRange t → IsReadBack t

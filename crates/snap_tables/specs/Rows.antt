@@ -10,7 +10,7 @@ use Rattle.snap_core.specs.declared.policy.Update.{Update}
 use Rattle.snap_rows.specs.declared.tables.ArrayAt.{ArrayAt}
 use Rattle.snap_rows.specs.declared.tables.Row.{Row}
 use Rattle.snap_rows.specs.declared.tables.Row.TheVariants as row
-use Rattle.snap_rows.specs.declared.tables.Stage.{Stage as Turn}
+use Rattle.snap_rows.specs.declared.tables.Stage.{Stage as LeafStage}
 use Rattle.snap_rows.specs.Entries.{Parts}
 use Rattle.snap_rows.specs.Form.{parts_cmp}
 use Rattle.snap_tables.specs.Text.{Words, out_words, row_words, stage_words, update_words}
@@ -53,7 +53,7 @@ part_less p q = nat_lt p.0 q.0
 abbrev pub parts_less : Parts → Parts → Bool
 parts_less a b = is_lt (parts_cmp a b)
 
-abbrev pub stands_apart : Turn → Turn → Bool
+abbrev pub stands_apart : LeafStage → LeafStage → Bool
 stands_apart a b = not (a.at == b.at)
 
 abbrev pub IsOut : Counts → Parts → Type 0
@@ -62,10 +62,10 @@ IsOut k o = All (IsPart k.comps) o × (is_adjacent part_less o ≡ true)
 abbrev pub AreOuts : Counts → List Parts → Type 0
 AreOuts k os = All (IsOut k) os × (is_adjacent parts_less os ≡ true)
 
-abbrev pub IsStage : Counts → Turn → Type 0
+abbrev pub IsStage : Counts → LeafStage → Type 0
 IsStage k s = (s.at < k.switches) × (0 < length s.ups) × All (IsUpdateOf k.comps k.arrays) s.ups
 
-abbrev pub AreStages : Counts → List Turn → Type 0
+abbrev pub AreStages : Counts → List LeafStage → Type 0
 AreStages k ss = All (IsStage k) ss × (is_adjacent stands_apart ss ≡ true) × (length ss ≤ 65535)
 
 -- the rank of an array
@@ -135,7 +135,7 @@ AreOutsSaid k ws os = (ws ≡ flat_map out_words os) × AreOuts k os
 abbrev pub IsNoStages : Counts → Words → Type 0
 IsNoStages k ws = IsNoFront stage_words (AreStages k) out_words (AreOuts k) ws
 
-abbrev pub AreStagesTaken : Counts → Words → List Turn → Words → Type 0
+abbrev pub AreStagesTaken : Counts → Words → List LeafStage → Words → Type 0
 AreStagesTaken k ws ss left = IsFront stage_words (AreStages k) out_words (AreOuts k) ws ss left
 
 abbrev pub IsNoUpdates : Counts → List ArrayAt → Words → Type 0
@@ -146,10 +146,10 @@ AreUpdatesTaken k ranked ws us left = IsFront update_words (AreUpdates k ranked)
 
 -- a leaf of version 1
 abbrev pub IsNoLeaf : Counts → Words → Type 0
-IsNoLeaf k ws = (ss : List Turn) (os : List Parts) → AreStages k ss → AreOuts k os → ws ≢ flat_map stage_words ss ++ flat_map out_words os
+IsNoLeaf k ws = (ss : List LeafStage) (os : List Parts) → AreStages k ss → AreOuts k os → ws ≢ flat_map stage_words ss ++ flat_map out_words os
 
 abbrev pub IsLeafSaid : Counts → Words → Row → Type 0
-IsLeafSaid k ws b = (ss : List Turn) × (os : List Parts) × (b ≡ row.Leaf ss os)
+IsLeafSaid k ws b = (ss : List LeafStage) × (os : List Parts) × (b ≡ row.Leaf ss os)
     × (ws ≡ flat_map stage_words ss ++ flat_map out_words os) × AreStages k ss × AreOuts k os
 
 -- a leaf of version 2

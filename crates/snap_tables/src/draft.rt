@@ -7,7 +7,7 @@ ghost use Rattle.snap_core.specs.Fields.{IsFields};
 ghost use Rattle.snap_tables.specs.Drafts.{IsKept, IsPut, may_come, no_entries, tables_of};
 ghost use Rattle.snap_tables.specs.declared.item.Item.TheVariants as item;
 ghost use Rattle.snap_tables.specs.Known.{IsBody, row_next};
-ghost use Rattle.snap_tables.specs.Entries.{are_new, declared, is_new, next_pair, pair_from, turn};
+ghost use Rattle.snap_tables.specs.Entries.{are_new, declared, is_new, next_pair, pair_from, due_pair};
 ghost use Rattle.snap_tables.specs.Lines.{counts_of, has, has_all_hops, is_ready, last_section, over};
 
 use crate::item::{Body, Item, NextRow};
@@ -22,7 +22,7 @@ use std::alloc::Global;
 
 /// Tables as far as their lines are read, the number of their components, and the names of their fields and components.
 #[derive(Drop)]
-pub(crate) struct Draft {
+pub(crate) struct TablesDraft {
     pub version: u8,
     pub comps: u16,
     pub names: Vec<Name>,
@@ -136,13 +136,13 @@ fn over(which: Which, most: u64, count: u64) -> Option<(Which, u64)>
     }
 }
 
-impl Draft {
+impl TablesDraft {
     /// Tables of which the first line alone is read.
-    pub(crate) fn new(alloc: Global, version: u8) -> Draft
+    pub(crate) fn new(alloc: Global, version: u8) -> TablesDraft
         ensures tables { tables_of result ≡ no_entries version }
         ensures kept { IsKept result }
     {
-        Draft {
+        TablesDraft {
             version,
             comps: 0,
             names: Vec::new(alloc),
@@ -199,9 +199,9 @@ impl Draft {
     }
 
     /// The pair of switches whose next hop comes next.
-    pub(crate) fn turn(&self) -> (u32, u32)
+    pub(crate) fn due_pair(&self) -> (u32, u32)
         requires { IsKept self.now }
-        ensures { result ≡ turn (length self.now.switches.items) self.now.hops.items }
+        ensures { result ≡ due_pair (length self.now.switches.items) self.now.hops.items }
     {
         match self.hops.last() {
             None => (0, 1),
@@ -218,8 +218,8 @@ impl Draft {
         ensures { result ≡ has_all_hops (tables_of self.now) }
     {
         let count = u32::from(self.switch_count());
-        let turn = self.turn();
-        count <= turn.0 || count <= turn.1
+        let due_pair = self.due_pair();
+        count <= due_pair.0 || count <= due_pair.1
     }
 
     /// Whether the sections before a section are whole.

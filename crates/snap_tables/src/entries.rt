@@ -9,7 +9,7 @@ ghost use Rattle.snap_tables.specs.Known.{AreKnown, AreSaid, IsBody, IsRowIn, ro
 ghost use Rattle.snap_tables.specs.Lines.{with_item};
 ghost use Rattle.snap_tables.specs.Reading.{Gives, field_said, hop_said, is_space, link_said, port_said};
 
-use crate::draft::{Draft, are_new, declared, is_new};
+use crate::draft::{TablesDraft, are_new, declared, is_new};
 use crate::item::{Item, NextRow};
 use crate::known::Known;
 use crate::named::{array_said, field_said, switch_said};
@@ -43,7 +43,7 @@ fn is_field_at(place: usize, name: &[u8], prefix: Option<u8>) -> bool
 }
 
 // The field that a line says, where it may come.
-fn field_of(alloc: Global, draft: &Draft, line: &[u8]) -> Result<Option<Field>, NoMemory>
+fn field_of(alloc: Global, draft: &TablesDraft, line: &[u8]) -> Result<Option<Field>, NoMemory>
     requires { IsKept draft.now }
     ensures { IfOk result (λ said. said ≡ kept (may_come (tables_of draft.now) 1) (field_fits draft.now.fields.items) (field_said (parts_by is_space line.now))) }
 {
@@ -66,7 +66,7 @@ fn field_of(alloc: Global, draft: &Draft, line: &[u8]) -> Result<Option<Field>, 
     }))
 }
 
-fn next_field(alloc: Global, draft: &Draft, line: &[u8]) -> Result<Option<Item>, NoMemory>
+fn next_field(alloc: Global, draft: &TablesDraft, line: &[u8]) -> Result<Option<Item>, NoMemory>
     requires { IsKept draft.now }
     ensures { IfOk result (λ said. MatchOption said (IsNoneBy 102 (tables_of draft.now) line.now) (IsItem (tables_of draft.now) line.now)) }
 {
@@ -77,7 +77,7 @@ fn next_field(alloc: Global, draft: &Draft, line: &[u8]) -> Result<Option<Item>,
 }
 
 // The switch that a line says, where it may come.
-fn switch_of<'a>(draft: &Draft, line: &'a [u8]) -> Option<&'a [u8]>
+fn switch_of<'a>(draft: &TablesDraft, line: &'a [u8]) -> Option<&'a [u8]>
     requires { IsKept draft.now }
     ensures { Gives result (switch_next draft.now (parts_by is_space line.now)) (λ name. name.now) }
 {
@@ -92,7 +92,7 @@ fn switch_of<'a>(draft: &Draft, line: &'a [u8]) -> Option<&'a [u8]>
     }
 }
 
-fn next_switch(alloc: Global, draft: &Draft, line: &[u8]) -> Result<Option<Item>, NoMemory>
+fn next_switch(alloc: Global, draft: &TablesDraft, line: &[u8]) -> Result<Option<Item>, NoMemory>
     requires { IsKept draft.now }
     ensures { IfOk result (λ said. MatchOption said (IsNoneBy 115 (tables_of draft.now) line.now) (IsItem (tables_of draft.now) line.now)) }
 {
@@ -117,7 +117,7 @@ fn is_new_array(arrays: &[ArrayAt], name: &[u8], at: u16, rank: u16) -> bool
 }
 
 // The array that a line says, where it may come.
-fn array_of<'a>(draft: &Draft, line: &'a [u8]) -> Option<(&'a [u8], u16, u16)>
+fn array_of<'a>(draft: &TablesDraft, line: &'a [u8]) -> Option<(&'a [u8], u16, u16)>
     requires { IsKept draft.now }
     ensures { Gives result (array_next draft.now (parts_by is_space line.now)) (λ a. record { name = a.0.now; at = a.1; rank = a.2 }) }
 {
@@ -132,7 +132,7 @@ fn array_of<'a>(draft: &Draft, line: &'a [u8]) -> Option<(&'a [u8], u16, u16)>
     }
 }
 
-fn next_array(alloc: Global, draft: &Draft, line: &[u8]) -> Result<Option<Item>, NoMemory>
+fn next_array(alloc: Global, draft: &TablesDraft, line: &[u8]) -> Result<Option<Item>, NoMemory>
     requires { IsKept draft.now }
     ensures { IfOk result (λ said. MatchOption said (IsNoneBy 97 (tables_of draft.now) line.now) (IsItem (tables_of draft.now) line.now)) }
 {
@@ -161,7 +161,7 @@ fn is_above_links(links: &[(u16, u16)], link: (u16, u16)) -> bool
 }
 
 // The link that a line says, where it may come.
-fn link_of(draft: &Draft, line: &[u8]) -> Option<(u16, u16)>
+fn link_of(draft: &TablesDraft, line: &[u8]) -> Option<(u16, u16)>
     requires { IsKept draft.now }
     ensures { result ≡ kept (may_come (tables_of draft.now) 4) (link_fits draft.now.links.items) (link_said (length draft.now.switches.items) (parts_by is_space line.now)) }
 {
@@ -176,7 +176,7 @@ fn link_of(draft: &Draft, line: &[u8]) -> Option<(u16, u16)>
     }
 }
 
-fn next_link(draft: &Draft, line: &[u8]) -> Option<Item>
+fn next_link(draft: &TablesDraft, line: &[u8]) -> Option<Item>
     requires { IsKept draft.now }
     ensures { MatchOption result (IsNoneBy 108 (tables_of draft.now) line.now) (IsItem (tables_of draft.now) line.now) }
 {
@@ -196,7 +196,7 @@ fn is_above_ports(ports: &[PortAt], port: PortAt) -> bool
 }
 
 // The port that a line says, where it may come.
-fn port_of(draft: &Draft, line: &[u8]) -> Option<PortAt>
+fn port_of(draft: &TablesDraft, line: &[u8]) -> Option<PortAt>
     requires { IsKept draft.now }
     ensures { result ≡ kept (may_come (tables_of draft.now) 5) (is_above port_less draft.now.ports.items) (port_said (length draft.now.switches.items) (parts_by is_space line.now)) }
 {
@@ -211,7 +211,7 @@ fn port_of(draft: &Draft, line: &[u8]) -> Option<PortAt>
     }
 }
 
-fn next_port(draft: &Draft, line: &[u8]) -> Option<Item>
+fn next_port(draft: &TablesDraft, line: &[u8]) -> Option<Item>
     requires { IsKept draft.now }
     ensures { MatchOption result (IsNoneBy 112 (tables_of draft.now) line.now) (IsItem (tables_of draft.now) line.now) }
 {
@@ -222,16 +222,16 @@ fn next_port(draft: &Draft, line: &[u8]) -> Option<Item>
 }
 
 // Whether it is the turn of a next hop's pair.
-fn is_in_turn(draft: &Draft, hop: Hop) -> bool
+fn is_due(draft: &TablesDraft, hop: Hop) -> bool
     requires { IsKept draft.now }
     ensures { result ≡ hop_fits (length draft.now.switches.items) draft.now.hops.items hop }
 {
-    let turn = draft.turn();
-    u32::from(hop.from) == turn.0 && u32::from(hop.target) == turn.1
+    let due_pair = draft.due_pair();
+    u32::from(hop.from) == due_pair.0 && u32::from(hop.target) == due_pair.1
 }
 
 // The next hop that a line says, where it may come.
-fn hop_of(draft: &Draft, line: &[u8]) -> Option<Hop>
+fn hop_of(draft: &TablesDraft, line: &[u8]) -> Option<Hop>
     requires { IsKept draft.now }
     ensures { result ≡ kept (may_come (tables_of draft.now) 6) (hop_fits (length draft.now.switches.items) draft.now.hops.items) (hop_said (length draft.now.switches.items) (parts_by is_space line.now)) }
 {
@@ -239,15 +239,11 @@ fn hop_of(draft: &Draft, line: &[u8]) -> Option<Hop>
         return None;
     }
     let hop = hop_said(draft.switch_count(), line)?;
-    if is_in_turn(draft, hop) {
-        Some(hop)
-    } else {
-        None
-    }
+    if is_due(draft, hop) { Some(hop) } else { None }
 }
 
 /// The next hop that a line says, if it is of its form after the lines before it.
-pub(crate) fn next_hop(draft: &Draft, line: &[u8]) -> Option<Hop>
+pub(crate) fn next_hop(draft: &TablesDraft, line: &[u8]) -> Option<Hop>
     requires { IsKept draft.now }
     ensures { MatchOption result (IsNoneBy 104 (tables_of draft.now) line.now) (λ hop. IsItem (tables_of draft.now) line.now (item.Hop hop)) }
 {
@@ -267,7 +263,7 @@ fn is_above_rows(rows: &Rows, at: u16, number: u64) -> bool
 // The row that a line says, behind those of a draft.
 fn row_line<'a>(
     alloc: Global,
-    draft: &Draft,
+    draft: &TablesDraft,
     counts: Counts,
     known: &mut Known<'a>,
     line: &'a [u8],
@@ -298,7 +294,7 @@ fn row_line<'a>(
 /// The row that a line says, if it is of its form after the lines before it.
 pub(crate) fn next_row<'a>(
     alloc: Global,
-    draft: &Draft,
+    draft: &TablesDraft,
     known: &mut Known<'a>,
     line: &'a [u8],
 ) -> Result<Option<NextRow>, NoMemory>
@@ -315,7 +311,7 @@ pub(crate) fn next_row<'a>(
 }
 
 // The link or port that a line says.
-fn next_listed(draft: &Draft, first: u8, line: &[u8]) -> Option<Item>
+fn next_listed(draft: &TablesDraft, first: u8, line: &[u8]) -> Option<Item>
     requires kept { IsKept draft.now }
     requires field { first ≢ 102 }
     requires switch { first ≢ 115 }
@@ -337,7 +333,7 @@ fn next_listed(draft: &Draft, first: u8, line: &[u8]) -> Option<Item>
 /// which are many, have functions of their own.
 pub(crate) fn next_item(
     alloc: Global,
-    draft: &Draft,
+    draft: &TablesDraft,
     first: u8,
     line: &[u8],
 ) -> Result<Option<Item>, NoMemory>

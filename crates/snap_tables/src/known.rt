@@ -4,7 +4,7 @@ ghost use Rattle.std.specs.Prelude.{◌≡◌, ◌+◌, ◌<◌, ◌^◌, [], If
 ghost use Rattle.snap_tables.specs.Known.{AreSaid, AreSaidBehind, IsBody, IsBodyIn, IsSaidAt, WhereSaid};
 ghost use Rattle.snap_tables.specs.Reading.{words_left};
 
-use crate::draft::Draft;
+use crate::draft::TablesDraft;
 use crate::item::Body;
 use crate::piece::Counts;
 use crate::row::row_of;
@@ -115,7 +115,7 @@ impl<'a> Known<'a> {
     pub(crate) fn body_of(
         &mut self,
         alloc: Global,
-        draft: &Draft,
+        draft: &TablesDraft,
         counts: Counts,
         number: u64,
         rest: Option<&'a [u8]>,

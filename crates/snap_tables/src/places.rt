@@ -4,7 +4,7 @@ ghost use Rattle.std.specs.Prelude.{◌≡◌, ◌+◌, ◌^◌, ◌<◌};
 ghost use Rattle.snap_tables.specs.Drafts.{ArePlaces, place_of, tables_of};
 ghost use Rattle.snap_tables.specs.Lines.{lines_of};
 
-use crate::draft::Draft;
+use crate::draft::TablesDraft;
 use snap_rows::tables::Spot;
 
 /// The lines of the first array, port, next hop and row, counted from 1.
@@ -18,7 +18,7 @@ pub(crate) struct Places {
 
 impl Places {
     /// Those of a draft.
-    pub(crate) fn of(draft: &Draft) -> Places
+    pub(crate) fn of(draft: &TablesDraft) -> Places
         requires { lines_of (tables_of draft.now) + 1 < 2 ^ 64 }
         ensures { ArePlaces (tables_of draft.now) result }
     {

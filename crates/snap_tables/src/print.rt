@@ -8,7 +8,7 @@ ghost use Rattle.snap_io.specs.Causes.{HasCause, Rose};
 ghost use Rattle.snap_io.specs.Outputs.{Puts};
 ghost use Rattle.snap_io.specs.Sinks.{AppendsPart};
 ghost use Rattle.snap_tables.specs.Print.{Blames};
-ghost use Rattle.snap_rows.specs.Form.{IsInForm};
+ghost use Rattle.snap_rows.specs.Form.{IsWellFormed};
 ghost use Rattle.snap_tables.specs.RowParts.{placed_line};
 ghost use Rattle.snap_tables.specs.ReadBack.{IsReadBack};
 ghost use Rattle.snap_tables.specs.Text.{array_line, field_line, hop_line, last_line, link_line, port_line, names_text, switch_line, text, text_with, ways_text};
@@ -213,7 +213,7 @@ fn print_rows<K: Sink>(
 
 // Writes the text of tables in form, and makes the words of each body once.
 fn print_tables<K: Sink>(alloc: Global, tables: &Tables, sink: &mut K) -> Result<(), PrintFault>
-    requires { IsInForm tables.now }
+    requires { IsWellFormed tables.now }
     ensures ok { OnOk result (Appends (K.taken sink.old) (K.taken sink.new) (text tables.now)) }
     ensures part { OnErr result (AppendsPart (K.taken sink.old) (K.taken sink.new) (text tables.now)) }
     ensures blames { Blames (K.faults sink.old) (K.faults sink.new) result }

@@ -6,7 +6,7 @@ ghost use Rattle.snap_tables.specs.Known.{AreKnown};
 ghost use Rattle.snap_tables.specs.Lines.{IsRead};
 ghost use Rattle.snap_tables.specs.declared.fault.TablesFault.TheVariants as fault;
 
-use crate::draft::Draft;
+use crate::draft::TablesDraft;
 use crate::entries::{next_hop, next_item, next_row};
 use crate::fault::TablesFault;
 use crate::known::Known;
@@ -44,7 +44,7 @@ fn first_said(text: &[u8]) -> Option<(u8, &[u8])>
 }
 
 // Takes the line of a next hop.
-fn take_hop(draft: &mut Draft, number: u64, line: &[u8]) -> Result<(), TablesFault>
+fn take_hop(draft: &mut TablesDraft, number: u64, line: &[u8]) -> Result<(), TablesFault>
     requires kept { IsKept draft.old }
     requires first { IsLed 104 line.now }
     ensures { MatchResult result (λ _. IsPutLine draft.old line.now draft.new) (IsLineFault draft.old number line.now) }
@@ -59,7 +59,7 @@ fn take_hop(draft: &mut Draft, number: u64, line: &[u8]) -> Result<(), TablesFau
 // Takes the line of a row.
 fn take_row<'a>(
     alloc: Global,
-    draft: &mut Draft,
+    draft: &mut TablesDraft,
     known: &mut Known<'a>,
     number: u64,
     line: &'a [u8],
@@ -80,7 +80,7 @@ fn take_row<'a>(
 // Takes a line with this first byte that says none of these.
 fn take_other(
     alloc: Global,
-    draft: &mut Draft,
+    draft: &mut TablesDraft,
     number: u64,
     first: u8,
     line: &[u8],
@@ -103,7 +103,7 @@ fn take_other(
 // Takes a line: puts the entry that it says.
 fn take_line<'a>(
     alloc: Global,
-    draft: &mut Draft,
+    draft: &mut TablesDraft,
     known: &mut Known<'a>,
     number: u64,
     line: &'a [u8],
@@ -129,7 +129,7 @@ fn take_line<'a>(
 }
 
 // Whether a line is the last one, where it may come.
-fn is_last(draft: &Draft, line: &[u8]) -> bool
+fn is_last(draft: &TablesDraft, line: &[u8]) -> bool
     requires { IsKept draft.now }
     ensures { result ≡ is_last (tables_of draft.now) line.now }
 {
@@ -137,7 +137,7 @@ fn is_last(draft: &Draft, line: &[u8]) -> bool
 }
 
 // The draft, where nothing stands behind its last line.
-fn ended(draft: Draft, next: u64, behind: &[u8]) -> Result<Draft, TablesFault>
+fn ended(draft: TablesDraft, next: u64, behind: &[u8]) -> Result<TablesDraft, TablesFault>
     ensures ok { IfOk result (λ d. (d ≡ draft) × (behind.now ≡ [])) }
     ensures err { IfErr result (λ e. (e ≡ fault.Line next) × (behind.now ≢ [])) }
 {
@@ -149,14 +149,14 @@ fn ended(draft: Draft, next: u64, behind: &[u8]) -> Result<Draft, TablesFault>
 }
 
 // The draft of all lines of a text.
-fn read_lines(alloc: Global, text: &[u8]) -> Result<Draft, TablesFault>
+fn read_lines(alloc: Global, text: &[u8]) -> Result<TablesDraft, TablesFault>
     ensures ok { IfOk result (IsReadTo text.now) }
     ensures err { IfErr result (λ e. IsRead text.now (Err e)) }
 {
     let Some((version, first)) = first_said(text) else {
         return Err(TablesFault::Line { line: 1 });
     };
-    let mut draft = Draft::new(alloc, version);
+    let mut draft = TablesDraft::new(alloc, version);
     let mut known = Known::none(alloc);
     let mut number = 1;
     let mut rest = first;

@@ -9,7 +9,7 @@ use Rattle.std.proofs.lemmas.List.Folds.{list_all-append}
 use Rattle.std.proofs.lemmas.Slice.Eq.{ends_is}
 use Rattle.std.proofs.lemmas.Option.{same_Some}
 use Rattle.snap_words.specs.Said.{are_among, is_among, is_among_or_none, said_among}
-use Rattle.snap_words.specs.Words.{Flag, Text, Told, Valued, Word, add, behind_dashes, behind_hyphen, changes_option, checked, end_of_options, flag_named, flag_word, flagged, has_names, is_same_option, name_word, nothing, option_named, option_with, option_word, schedule_option, tell, told_by, value_in, value_word, valued, with_names, word_of, workers_option}
+use Rattle.snap_words.specs.Words.{Flag, Text, ArgumentsView, Valued, Word, add, behind_dashes, behind_hyphen, changes_option, checked, end_of_options, flag_named, flag_word, flagged, has_names, is_same_option, name_word, nothing, option_named, option_with, option_word, schedule_option, arguments_of, told_by, value_in, value_word, valued, with_names, word_of, workers_option}
 
 -- ---- a value is the end of its word
 -- the word ends so
@@ -68,32 +68,32 @@ module _ (all : List Text) where
   among_all [] ends = refl
   among_all (w ∷ ws) ends = rw (ends.0 [] w refl) (among_all ws ends.1)
 
-  abbrev Fits : Told → Type 0
+  abbrev Fits : ArgumentsView → Type 0
   Fits t = (are_among all t.names ≡ true) × ((o : Valued) → is_among_or_none all (t.values o) ≡ true)
 
-  fits_more : (t : Told) (ws : List Text) → Fits t → are_among all ws ≡ true → Fits (with_names t ws)
+  fits_more : (t : ArgumentsView) (ws : List Text) → Fits t → are_among all ws ≡ true → Fits (with_names t ws)
   fits_more t ws fits among = (list_all-append (is_among all) t.names ws ∙ rw (fits.0, among) refl, fits.1)
 
   one_of_two : (b : Bool) (v : Text) (o : Option Text) → is_among all v ≡ true → is_among_or_none all o ≡ true → is_among_or_none all (cond b (Some v) o) ≡ true
   one_of_two true v o one other = one
   one_of_two false v o one other = other
 
-  fits_value : (t : Told) (o : Valued) (v : Text) → Fits t → is_among all v ≡ true → Fits (valued t o v)
+  fits_value : (t : ArgumentsView) (o : Valued) (v : Text) → Fits t → is_among all v ≡ true → Fits (valued t o v)
   fits_value t o v fits one = (fits.0, λ p. one_of_two (is_same_option o p) v (t.values p) one (fits.1 p))
 
   -- what the words behind lead to
   abbrev Leads : List Text → Type 0
-  Leads ws = (waits : Option Valued) (t u : Told) → tell ws waits t ≡ Some u → Fits t → Fits u
+  Leads ws = (waits : Option Valued) (t u : ArgumentsView) → arguments_of ws waits t ≡ Some u → Fits t → Fits u
 
-  behind_flag : (ws : List Text) (t u : Told) (f : Flag) (b : Bool) → Leads ws → option_and_then (tell ws None) (cond b None (Some (flagged t f))) ≡ Some u → Fits t → Fits u
+  behind_flag : (ws : List Text) (t u : ArgumentsView) (f : Flag) (b : Bool) → Leads ws → option_and_then (arguments_of ws None) (cond b None (Some (flagged t f))) ≡ Some u → Fits t → Fits u
   behind_flag ws t u f true leads e fits = cc
   behind_flag ws t u f false leads e fits = leads None (flagged t f) u e fits
 
-  behind_value : (ws : List Text) (t u : Told) (o : Valued) (v : Text) (b : Bool) → Leads ws → is_among all v ≡ true → option_and_then (tell ws None) (cond b None (Some (valued t o v))) ≡ Some u → Fits t → Fits u
+  behind_value : (ws : List Text) (t u : ArgumentsView) (o : Valued) (v : Text) (b : Bool) → Leads ws → is_among all v ≡ true → option_and_then (arguments_of ws None) (cond b None (Some (valued t o v))) ≡ Some u → Fits t → Fits u
   behind_value ws t u o v true leads one e fits = cc
   behind_value ws t u o v false leads one e fits = leads None (valued t o v) u e (fits_value t o v fits one)
 
-  behind_word : (m : Word) (w : Text) (ws : List Text) (t u : Told) → word_of w ≡ m → Leads ws → Ends w → AllEnd ws → add m t w ws (tell ws) ≡ Some u → Fits t → Fits u
+  behind_word : (m : Word) (w : Text) (ws : List Text) (t u : ArgumentsView) → word_of w ≡ m → Leads ws → Ends w → AllEnd ws → add m t w ws (arguments_of ws) ≡ Some u → Fits t → Fits u
   behind_word end_of_options w ws t u is leads one ends e fits = subst Fits (same_Some _ _ e) (fits_more t ws fits (among_all ws ends))
   behind_word (flag_word f) w ws t u is leads one ends e fits = behind_flag ws t u f (t.flags f) leads e fits
   behind_word (option_word o) w ws t u is leads one ends e fits = leads (Some o) t u e fits
@@ -106,11 +106,11 @@ module _ (all : List Text) where
   tell_among (w ∷ ws) ends None t u e fits = behind_word (word_of w) w ws t u refl (tell_among ws ends.1) ends.0 ends.1 e fits
   tell_among (w ∷ ws) ends (Some o) t u e fits = behind_value ws t u o w (is_some (t.values o)) (tell_among ws ends.1) (ends.0 [] w refl) e fits
 
-  checked_same : (u t : Told) (b : Bool) → cond b (Some u) None ≡ Some t → u ≡ t
+  checked_same : (u t : ArgumentsView) (b : Bool) → cond b (Some u) None ≡ Some t → u ≡ t
   checked_same u t true e = same_Some _ _ e
   checked_same u t false e = cc
 
-  told_among : (ws : List Text) (o : Option Told) (t : Told) → AllEnd ws → tell ws None nothing ≡ o → option_and_then checked o ≡ Some t → Fits t
+  told_among : (ws : List Text) (o : Option ArgumentsView) (t : ArgumentsView) → AllEnd ws → arguments_of ws None nothing ≡ o → option_and_then checked o ≡ Some t → Fits t
   told_among ws None t ends is e = cc
   told_among ws (Some u) t ends is e = subst Fits (checked_same u t (has_names u) e) (tell_among ws ends None nothing u is (refl, λ o. refl))
 
@@ -123,7 +123,7 @@ all_end-same [] = tt
 all_end-same (w ∷ ws) = (λ front end e. rw ((ends_is Decides-eqb w end _ refl).1 front e) refl, all_end-cons w ws ws (all_end-same ws))
 
 -- what the words behind a first word say is among all of them
-pub told_by-among : (first : Text) (ws : List Text) (t : Told) → told_by ws ≡ Some t → said_among (first ∷ ws) t ≡ true
+pub told_by-among : (first : Text) (ws : List Text) (t : ArgumentsView) → told_by ws ≡ Some t → said_among (first ∷ ws) t ≡ true
 told_by-among first ws t e =
-    let fits = told_among (first ∷ ws) ws (tell ws None nothing) t (all_end-cons first ws ws (all_end-same ws)) refl e in
+    let fits = told_among (first ∷ ws) ws (arguments_of ws None nothing) t (all_end-cons first ws ws (all_end-same ws)) refl e in
     rw (fits.0, fits.1 schedule_option, fits.1 changes_option, fits.1 workers_option) refl

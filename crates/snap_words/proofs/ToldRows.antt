@@ -4,7 +4,7 @@ use Rattle.std.proofs.lemmas.Slice.Eq.{bytes_eq-Decides}
 use Rattle.clap.specs.Words.{Row, Text}
 use Rattle.clap.specs.Walk.{all_of, finished, has_row, one_of, reading_by, with_default, with_values}
 use Rattle.clap.specs.declared.parser.matches.ValueSource.TheVariants.{CommandLine, DefaultValue}
-use Rattle.snap_words.specs.Words.{Flag, Told, Valued, flag_text, flagged, hops_flag, is_same_flag, is_same_option, nothing, on_demand_flag, option_text, ordered_flag, schedule_option, changes_option, workers_option, valued, with_names}
+use Rattle.snap_words.specs.Words.{Flag, ArgumentsView, Valued, flag_text, flagged, hops_flag, is_same_flag, is_same_option, nothing, on_demand_flag, option_text, ordered_flag, schedule_option, changes_option, workers_option, valued, with_names}
 use Rattle.snap_words.proofs.ClapForm.{Has}
 use Rattle.snap_words.proofs.Rows.{all_of-other, all_of-same, has_row-all_of, one_of-other, one_of-same, without-absent}
 use Rattle.snap_words.proofs.Turns.{done, flag_built, flag_used, held, name_built, name_id, name_used, option_built, option_used, top}
@@ -57,7 +57,7 @@ same_text a b is = (bytes_eq-Decides a b).0 is
 abbrev pub flag : Bool → Option Text
 flag on = cond on (Some (codes "true")) None
 
-pub record Sim (r : List Row) (t : Told) : Type 0 where
+pub record Sim (r : List Row) (t : ArgumentsView) : Type 0 where
   pub flags_are : (f : Flag) → one_of (flag_text f) r ≡ flag (t.flags f)
   pub used_are : (f : Flag) → is_some (all_of (flag_text f) r) ≡ t.flags f
   pub values_are : (o : Valued) → all_of (option_text o) r ≡ option_map (λ v. v ∷ []) (t.values o)
@@ -67,7 +67,7 @@ no_row : (o : Option (List Text)) → is_some o ≡ false → o ≡ None
 no_row None h = refl
 no_row (Some vs) h = cc
 
-module _ (f : Flag) (r : List Row) (t : Told) (off : t.flags f ≡ false) (s : Sim r t) where
+module _ (f : Flag) (r : List Row) (t : ArgumentsView) (off : t.flags f ≡ false) (s : Sim r t) where
   abbrev id : Text
   id = flag_text f
 
@@ -96,7 +96,7 @@ module _ (f : Flag) (r : List Row) (t : Told) (off : t.flags f ≡ false) (s : S
     names_is = ap (λ o. unwrap_or o []) (ap (all_of name_id) flag_put ∙ all_of-other id name_id (reading_by (flag_built f)) CommandLine (codes "true" ∷ []) r (flag_not_name f)) ∙ s.names_is;
   }
 
-module _ (o : Valued) (v : Text) (r : List Row) (t : Told) (off : t.values o ≡ None) (s : Sim r t) where
+module _ (o : Valued) (v : Text) (r : List Row) (t : ArgumentsView) (off : t.values o ≡ None) (s : Sim r t) where
   abbrev key : Text
   key = option_text o
 
@@ -122,7 +122,7 @@ module _ (o : Valued) (v : Text) (r : List Row) (t : Told) (off : t.values o ≡
     names_is = ap (λ o. unwrap_or o []) (ap (all_of name_id) value_set ∙ all_of-other key name_id (reading_by (option_built o)) CommandLine (v ∷ []) r (option_not_name o)) ∙ s.names_is;
   }
 
-pub sim-name : (r : List Row) (t : Told) (v : Text) → Sim r t → Sim (name_used v r) (with_names t (v ∷ []))
+pub sim-name : (r : List Row) (t : ArgumentsView) (v : Text) → Sim r t → Sim (name_used v r) (with_names t (v ∷ []))
 sim-name r t v s = record {
   flags_are = λ f. one_of-other name_id (flag_text f) (reading_by name_built) CommandLine (v ∷ []) r (name_not_flag f) ∙ s.flags_are f;
   used_are = λ f. ap is_some (all_of-other name_id (flag_text f) (reading_by name_built) CommandLine (v ∷ []) r (name_not_flag f)) ∙ s.used_are f;
@@ -133,10 +133,10 @@ sim-name r t v s = record {
 pub sim-start : Sim [] nothing
 sim-start = record { flags_are = λ f. refl; used_are = λ f. refl; values_are = λ o. refl; names_is = refl }
 
-pub flag_there : (f : Flag) (r : List Row) (t : Told) (b : Bool) → t.flags f ≡ b → Sim r t → has_row (flag_text f) r ≡ b
+pub flag_there : (f : Flag) (r : List Row) (t : ArgumentsView) (b : Bool) → t.flags f ≡ b → Sim r t → has_row (flag_text f) r ≡ b
 flag_there f r t b is s = has_row-all_of (flag_text f) r ∙ s.used_are f ∙ is
 
-pub value_there : (o : Valued) (r : List Row) (t : Told) (was : Option Text) → t.values o ≡ was → Sim r t → has_row (option_text o) r ≡ is_some was
+pub value_there : (o : Valued) (r : List Row) (t : ArgumentsView) (was : Option Text) → t.values o ≡ was → Sim r t → has_row (option_text o) r ≡ is_some was
 value_there o r t was is s = has_row-all_of (option_text o) r ∙ ap is_some (s.values_are o ∙ ap (option_map (λ v. v ∷ [])) is) ∙ one was
   where
     one : (o : Option Text) → is_some (option_map (λ v. v ∷ []) o) ≡ is_some o
@@ -186,7 +186,7 @@ whole r = defaulted on_demand_flag (both r)
 only_flags : (r : List Row) → fold with_default r top.rules ≡ whole r
 only_flags r = rw (unchanged (has_row (codes "schedule") (whole r)) (whole r), unchanged (has_row (codes "changes") (whole r)) (whole r), unchanged (has_row (codes "workers") (whole r)) (whole r), unchanged (has_row name_id (whole r)) (whole r)) refl
 
-module _ (r : List Row) (t : Told) (s : Sim r t) where
+module _ (r : List Row) (t : ArgumentsView) (s : Sim r t) where
   all_in_both : (id : Text) → bytes_eq (flag_text ordered_flag) id ≡ false → bytes_eq (flag_text hops_flag) id ≡ false → all_of id (both r) ≡ all_of id r
   all_in_both id ordered hops = all_elsewhere ordered_flag (defaulted hops_flag r) id ordered ∙ all_elsewhere hops_flag r id hops
 
@@ -209,5 +209,5 @@ module _ (r : List Row) (t : Told) (s : Sim r t) where
     names_is = ap (λ o. unwrap_or o []) (elsewhere name_id refl refl refl) ∙ s.names_is;
   }
 
-pub has-final : (r : List Row) (q : Option (Text × List Text)) (t : Told) → Sim (done r q) t → Has (finished top.rules (held r q)) t
+pub has-final : (r : List Row) (q : Option (Text × List Text)) (t : ArgumentsView) → Sim (done r q) t → Has (finished top.rules (held r q)) t
 has-final r q t s = let P : List Row → Type 0 = λ x. Has x t in subst P (sym (only_flags (done r q))) (has-whole (done r q) t s)

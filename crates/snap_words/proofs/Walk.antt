@@ -8,7 +8,7 @@ use Rattle.clap.specs.Simple.{entered}
 use Rattle.clap.specs.Walk.{Walk, finished, has_row, nothing_held, walk_from, walked}
 use Rattle.clap.specs.declared.error.kind.ErrorKind.TheVariants.{ArgumentConflict, InvalidValue, UnknownArgument, TooManyValues}
 use Rattle.snap_words.specs.Clap.{app}
-use Rattle.snap_words.specs.Words.{Flag, Told, Valued, Word, end_of_options, flag_text, flagged, nothing, option_text, option_with, valued, with_names}
+use Rattle.snap_words.specs.Words.{Flag, ArgumentsView, Valued, Word, end_of_options, flag_text, flagged, nothing, option_text, option_with, valued, with_names}
 use Rattle.snap_words.proofs.ClapForm.{Has, after, long_met, read}
 use Rattle.snap_words.proofs.Names.{Named, a_flag, an_option, flag_says, flag_takes_none, named, option_says, unknown, unknown_says, value_says}
 use Rattle.snap_words.proofs.Shapes.{AllText, first_char, short_text}
@@ -17,17 +17,17 @@ use Rattle.snap_words.proofs.Faults.{fault, final, fault-more, fault-none, ends,
 use Rattle.snap_words.proofs.ToldRows.{Sim, flag_there, has-final, sim-flag, sim-name, sim-start, sim-value, value_there}
 use Rattle.snap_words.proofs.Settled.{short_by, owes}
 
-abbrev Comes : Walk → List Text → Option Told → Type 0
+abbrev Comes : Walk → List Text → Option ArgumentsView → Type 0
 Comes w words o = MatchOption o (fault w words ≡ [] → ⊥) (λ t. (fault w words ≡ []) × Has (final w words) t)
 
-turn : (w v : Walk) (x : Text) (xs : List Text) (o : Option Told) → turn_fault top [] w x ≡ [] → walked top.rules [] w x ≡ v → Comes v xs o → Comes w (x ∷ xs) o
+turn : (w v : Walk) (x : Text) (xs : List Text) (o : Option ArgumentsView) → turn_fault top [] w x ≡ [] → walked top.rules [] w x ≡ v → Comes v xs o → Comes w (x ∷ xs) o
 turn w v x xs o passes goes h = go o (fault-more w x xs ∙ ap (λ k. or_else k (fault (walked top.rules [] w x) xs)) passes ∙ ap (λ u. fault u xs) goes) (ap (λ u. final u xs) goes) h
   where
-    go : (o : Option Told) → fault w (x ∷ xs) ≡ fault v xs → final w (x ∷ xs) ≡ final v xs → Comes v xs o → Comes w (x ∷ xs) o
+    go : (o : Option ArgumentsView) → fault w (x ∷ xs) ≡ fault v xs → final w (x ∷ xs) ≡ final v xs → Comes v xs o → Comes w (x ∷ xs) o
     go None same rows h = λ none. h (sym same ∙ none)
     go (Some t) same rows h = (same ∙ h.0, let P : List Row → Type 0 = λ r. Has r t in subst P (sym rows) h.1)
 
-trails-come : (ws : List Text) (r : List Row) (q : Option (Text × List Text)) (p : Bool) (t : Told) → settles r q ≡ [] → Sim (done r q) t
+trails-come : (ws : List Text) (r : List Row) (q : Option (Text × List Text)) (p : Bool) (t : ArgumentsView) → settles r q ≡ [] → Sim (done r q) t
     → Comes (at (held r q) p true) ws (Some (with_names t ws))
 trails-come [] r q p t fine s = (fault-none (at (held r q) p true) ∙ ends r q ∙ fine, let P : List Text → Type 0 = λ fs. Has (finished top.rules (held r q)) (record t { names = fs }) in subst P (sym (append-nil t.names)) (has-final r q t s))
 trails-come (w ∷ ws) r q p t fine s =
@@ -39,14 +39,14 @@ trails-come (w ∷ ws) r q p t fine s =
 -- ---- the claims
 
 abbrev AtClaim : List Text → Type 0
-AtClaim ws = (r : List Row) (q : Option (Text × List Text)) (p : Bool) (t : Told) → settles r q ≡ [] → Sim (done r q) t → Comes (at (held r q) p false) ws (read ws None t)
+AtClaim ws = (r : List Row) (q : Option (Text × List Text)) (p : Bool) (t : ArgumentsView) → settles r q ≡ [] → Sim (done r q) t → Comes (at (held r q) p false) ws (read ws None t)
 
 abbrev WaitClaim : List Text → Type 0
-WaitClaim ws = (o : Valued) (r : List Row) (t : Told) → Sim r t → Comes (waits o r false) ws (read ws (Some o) t)
+WaitClaim ws = (o : Valued) (r : List Row) (t : ArgumentsView) → Sim r t → Comes (waits o r false) ws (read ws (Some o) t)
 
 -- ---- where no option waits
 -- `--FLAG`
-flag-step : (w : Text) (ws : List Text) (f : Flag) (r : List Row) (q : Option (Text × List Text)) (p : Bool) (t : Told) (b : Bool) → t.flags f ≡ b → bytes_eq w (codes "--") ≡ false → long_of w ≡ Some (flag_text f, None)
+flag-step : (w : Text) (ws : List Text) (f : Flag) (r : List Row) (q : Option (Text × List Text)) (p : Bool) (t : ArgumentsView) (b : Bool) → t.flags f ≡ b → bytes_eq w (codes "--") ≡ false → long_of w ≡ Some (flag_text f, None)
     → AtClaim ws → settles r q ≡ [] → Sim (done r q) t → Comes (at (held r q) p false) (w ∷ ws) (option_and_then (read ws None) (cond b None (Some (flagged t f))))
 flag-step w ws f r q p t true on single long next fine s =
     let there : has_row (flag_text f) (done r q) ≡ true = flag_there f (done r q) t true on s in
@@ -57,7 +57,7 @@ flag-step w ws f r q p t false off single long next fine s =
     (flag_moves r q w single f p long) (next (flag_used f (done r q)) None false (flagged t f) refl (sim-flag f (done r q) t off s))
 
 -- `--OPTION=VALUE`
-value-step : (w : Text) (ws : List Text) (o : Valued) (v : Text) (r : List Row) (q : Option (Text × List Text)) (p : Bool) (t : Told) (was : Option Text) → t.values o ≡ was → bytes_eq w (codes "--") ≡ false → long_of w ≡ Some (option_text o, Some v)
+value-step : (w : Text) (ws : List Text) (o : Valued) (v : Text) (r : List Row) (q : Option (Text × List Text)) (p : Bool) (t : ArgumentsView) (was : Option Text) → t.values o ≡ was → bytes_eq w (codes "--") ≡ false → long_of w ≡ Some (option_text o, Some v)
     → AtClaim ws → settles r q ≡ [] → Sim (done r q) t → Comes (at (held r q) p false) (w ∷ ws) (option_and_then (read ws None) (cond (is_some was) None (Some (valued t o v))))
 value-step w ws o v r q p t (Some u) on single long next fine s =
     let there : has_row (option_text o) (done r q) ≡ true = value_there o (done r q) t (Some u) on s in
@@ -67,7 +67,7 @@ value-step w ws o v r q p t None off single long next fine s =
     turn (at (held r q) p false) (at (held (option_used o v (done r q)) None) false false) w ws (read ws None (valued t o v)) (value_turn r q w single o p false v long missing ∙ ap (λ k. or_else (or_else k (twice false)) []) fine)
     (value_moves r q w single o p v long) (next (option_used o v (done r q)) None false (valued t o v) refl (sim-value o v (done r q) t off s))
 
-module _ (w : Text) (ws : List Text) (r : List Row) (q : Option (Text × List Text)) (p : Bool) (t : Told) (single : bytes_eq w (codes "--") ≡ false) (next : AtClaim ws) (waiting : WaitClaim ws) (fine : settles r q ≡ []) (sim : Sim (done r q) t) where
+module _ (w : Text) (ws : List Text) (r : List Row) (q : Option (Text × List Text)) (p : Bool) (t : ArgumentsView) (single : bytes_eq w (codes "--") ≡ false) (next : AtClaim ws) (waiting : WaitClaim ws) (fine : settles r q ≡ []) (sim : Sim (done r q) t) where
   abbrev Goes : Option Word → Type 0
   Goes m = Comes (at (held r q) p false) (w ∷ ws) (after None m t w ws (read ws))
 
@@ -93,7 +93,7 @@ module _ (w : Text) (ws : List Text) (r : List Row) (q : Option (Text × List Te
       turn (at (held r q) p false) (at (held (done r q) (Some (name_id, w ∷ []))) true false) w ws (read ws None (with_names t (w ∷ []))) (name_turn r q w single p long short ∙ fine) (name_moves r q w single p long short)
       (next (done r q) (Some (name_id, w ∷ [])) true (with_names t (w ∷ [])) (name_settles (done r q) w) (subst P (sym (name_done (done r q) w)) (sim-name (done r q) t w sim)))
 
-at-step : (w : Text) (ws : List Text) (r : List Row) (q : Option (Text × List Text)) (p : Bool) (t : Told) (b : Bool) → IsUtf8 w → bytes_eq w (codes "--") ≡ b → AtClaim ws → WaitClaim ws → settles r q ≡ [] → Sim (done r q) t
+at-step : (w : Text) (ws : List Text) (r : List Row) (q : Option (Text × List Text)) (p : Bool) (t : ArgumentsView) (b : Bool) → IsUtf8 w → bytes_eq w (codes "--") ≡ b → AtClaim ws → WaitClaim ws → settles r q ≡ [] → Sim (done r q) t
     → Comes (at (held r q) p false) (w ∷ ws) (after None (cond b (Some end_of_options) (long_met (long_of w) (short_of w))) t w ws (read ws))
 at-step w ws r q p t true text is next waiting fine sim = turn (at (held r q) p false) (at (held r q) p true) w ws (Some (with_names t ws)) (dashes_turn r q p w is) (dashes_moves r q p w is) (trails-come ws r q p t fine sim)
 at-step w ws r q p t false text is next waiting fine sim = word-step w ws r q p t is next waiting fine sim _ _ text refl refl
@@ -109,7 +109,7 @@ wait-short o r w ws [] single long short text none = text.1 refl
 wait-short o r w ws (y ∷ ys) single long short text none = let c = first_char y ys _ refl text.0 in fails (waits o r false) w ws UnknownArgument (wait_short r w single o y ys c.0 long short c.1) none
 
 -- the value
-got-step : (w : Text) (ws : List Text) (o : Valued) (r : List Row) (t : Told) (was : Option Text) → t.values o ≡ was → AllText ws → bytes_eq w (codes "--") ≡ false → long_of w ≡ None → short_of w ≡ None → AtClaim ws → Sim r t
+got-step : (w : Text) (ws : List Text) (o : Valued) (r : List Row) (t : ArgumentsView) (was : Option Text) → t.values o ≡ was → AllText ws → bytes_eq w (codes "--") ≡ false → long_of w ≡ None → short_of w ≡ None → AtClaim ws → Sim r t
     → Comes (waits o r false) (w ∷ ws) (option_and_then (read ws None) (cond (is_some was) None (Some (valued t o w))))
 got-step w ws o r t (Some u) on text single long short next s =
     let there : has_row (option_text o) r ≡ true = value_there o r t (Some u) on s in
@@ -121,7 +121,7 @@ got-step w ws o r t None off text single long short next s =
     turn (waits o r false) (at (held r (Some (option_text o, w ∷ []))) false false) w ws (read ws None (valued t o w)) (got_turn r w o single long short) (got_moves r w o single long short)
     (next r (Some (option_text o, w ∷ [])) false (valued t o w) (val_settles r w o false missing) (subst P (sym (val_done r w o)) (sim-value o w r t off s)))
 
-module _ (w : Text) (ws : List Text) (o : Valued) (r : List Row) (t : Told) (single : bytes_eq w (codes "--") ≡ false) where
+module _ (w : Text) (ws : List Text) (o : Valued) (r : List Row) (t : ArgumentsView) (single : bytes_eq w (codes "--") ≡ false) where
   abbrev Waits : Option Word → Type 0
   Waits m = Comes (waits o r false) (w ∷ ws) (after (Some o) m t w ws (read ws))
 
@@ -143,7 +143,7 @@ module _ (w : Text) (ws : List Text) (o : Valued) (r : List Row) (t : Told) (sin
   wait-word None (Some f) text long short next s = wait-short o r w ws f single long short (short_text w f text.0 short)
   wait-word None None text long short next s = got-step w ws o r t _ refl text.1 single long short next s
 
-wait-step : (w : Text) (ws : List Text) (o : Valued) (r : List Row) (t : Told) (b : Bool) → AllText (w ∷ ws) → bytes_eq w (codes "--") ≡ b → AtClaim ws → Sim r t
+wait-step : (w : Text) (ws : List Text) (o : Valued) (r : List Row) (t : ArgumentsView) (b : Bool) → AllText (w ∷ ws) → bytes_eq w (codes "--") ≡ b → AtClaim ws → Sim r t
     → Comes (waits o r false) (w ∷ ws) (after (Some o) (cond b (Some end_of_options) (long_met (long_of w) (short_of w))) t w ws (read ws))
 wait-step w ws o r t true text is next s = turn (waits o r false) (waits o r true) w ws None (wait_dashes_turn r w o is) (wait_dashes_moves r w o is) (trails-wait ws o r)
 wait-step w ws o r t false text is next s = wait-word w ws o r t is _ _ text refl refl next s
@@ -165,6 +165,6 @@ leaf words (Some p) = refl
 pub app-form : (ws : List Text) → AllText ws → MatchOption (read ws None nothing) (fault_of app ws ≡ [] → ⊥) (λ t. (fault_of app ws ≡ []) × Has (matches_of app ws) t)
 app-form ws text = go (read ws None nothing) (leaf ws _) ((come ws text).0 [] None false nothing refl sim-start)
   where
-    go : (o : Option Told) → fault_of app ws ≡ fault (walk_from nothing_held) ws → Comes (at (held [] None) false false) ws o → MatchOption o (fault_of app ws ≡ [] → ⊥) (λ t. (fault_of app ws ≡ []) × Has (matches_of app ws) t)
+    go : (o : Option ArgumentsView) → fault_of app ws ≡ fault (walk_from nothing_held) ws → Comes (at (held [] None) false false) ws o → MatchOption o (fault_of app ws ≡ [] → ⊥) (λ t. (fault_of app ws ≡ []) × Has (matches_of app ws) t)
     go None same h = λ none. h (sym same ∙ none)
     go (Some t) same h = (same ∙ h.0, h.1)

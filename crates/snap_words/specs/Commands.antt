@@ -3,7 +3,7 @@ use Rattle.std.specs.Prelude.{ℕ, ◌||◌, Bool, true, false, List, [], ◌∷
 use Rattle.std.specs.List.{list_all}
 use Rattle.std.specs.Str.{bytes_eq, is_utf8}
 use Rattle.snap_words.specs.Counts.{count_of}
-use Rattle.snap_words.specs.Words.{Text, Told, hops_flag, on_demand_flag, ordered_flag, schedule_option, changes_option, workers_option, told_by}
+use Rattle.snap_words.specs.Words.{Text, ArgumentsView, hops_flag, on_demand_flag, ordered_flag, schedule_option, changes_option, workers_option, told_by}
 
 -- in which order `trace` runs packets: one after the other, by the lines of a file, or one after the other between changes of
 -- tables by the lines of a file; or each rank's packets in their turn, one after the other, by the lines of a file, or by rounds that
@@ -12,7 +12,7 @@ pub data Order : Type 0 where
   plain : Order
   schedule : Text → Order
   changes : Text → Order
-  in_turn : (lines : Option Text) → Order
+  in_order : (lines : Option Text) → Order
   rounds : (workers : ℕ) → Order
 
 -- a command and the files that it names
@@ -28,16 +28,16 @@ pub data Command : Type 0 where
   demo : (switches : ℕ) → Command
 
 -- an option of `trace` was there
-abbrev pub has_trace_options : Told → Bool
+abbrev pub has_trace_options : ArgumentsView → Bool
 has_trace_options t = t.flags hops_flag || t.flags ordered_flag || is_some (t.values schedule_option)
     || is_some (t.values changes_option) || is_some (t.values workers_option)
 
 -- an option was there
-abbrev pub has_options : Told → Bool
+abbrev pub has_options : ArgumentsView → Bool
 has_options t = t.flags on_demand_flag || has_trace_options t
 
 -- the names of a command that has no options
-abbrev pub names_alone : Told → Option (List Text)
+abbrev pub names_alone : ArgumentsView → Option (List Text)
 names_alone t = if has_options t then None else Some t.names
 
 -- a command of one name, of two, and of three
@@ -82,25 +82,25 @@ abbrev pub order_by : (ordered : Bool) → (lines tables workers : Option Text) 
 order_by false None None None = Some plain
 order_by false (Some file) None None = Some (schedule file)
 order_by false None (Some file) None = Some (changes file)
-order_by true lines None None = Some (in_turn lines)
+order_by true lines None None = Some (in_order lines)
 order_by true None None (Some count) = option_map rounds (count_of count)
 order_by ordered lines tables workers = None
 
-abbrev pub order_of : Told → Option Order
+abbrev pub order_of : ArgumentsView → Option Order
 order_of t = order_by (t.flags ordered_flag) (t.values schedule_option) (t.values changes_option) (t.values workers_option)
 
-abbrev pub trace_for : Told → Option Command
+abbrev pub trace_for : ArgumentsView → Option Command
 trace_for t =
     if t.flags on_demand_flag then None
     else option_and_then (λ order. with_two (λ tables packets. trace tables packets (t.flags hops_flag) order) t.names) (order_of t)
 
-abbrev pub compile_for : Told → Option Command
+abbrev pub compile_for : ArgumentsView → Option Command
 compile_for t =
     if has_trace_options t then None
     else with_three (λ program topology placement. compile program topology placement (t.flags on_demand_flag)) t.names
 
 -- the command of a first word and of what the others say; options are of `trace` and `compile` alone
-abbrev pub command_for : Text → Told → Option Command
+abbrev pub command_for : Text → ArgumentsView → Option Command
 command_for first t =
     if bytes_eq first (codes "trace") then trace_for t
     else if bytes_eq first (codes "compile") then compile_for t

@@ -4,13 +4,13 @@ use Rattle.std.specs.List.{ends_with, list_all, list_any}
 use Rattle.std.specs.Borrow.{Bor}
 use Rattle.std.specs.declared.vec.Vec.{Vec}
 use Rattle.std.specs.Global.{Global}
-use Rattle.snap_words.specs.Commands.{Command, Order, plain, schedule, changes, in_turn, rounds, check, compile, demo, deps, equal, obs, routes, place, trace}
-use Rattle.snap_words.specs.Words.{Flag, Text, Told, Valued, hops_flag, on_demand_flag, ordered_flag, schedule_option, changes_option, workers_option}
+use Rattle.snap_words.specs.Commands.{Command, Order, plain, schedule, changes, in_order, rounds, check, compile, demo, deps, equal, obs, routes, place, trace}
+use Rattle.snap_words.specs.Words.{Flag, Text, ArgumentsView, Valued, hops_flag, on_demand_flag, ordered_flag, schedule_option, changes_option, workers_option}
 use Rattle.snap_words.specs.declared.command.Command.{Command as Given}
 use Rattle.snap_words.specs.declared.command.Command.TheVariants as given
 use Rattle.snap_words.specs.declared.command.Order.{Order as GivenOrder}
 use Rattle.snap_words.specs.declared.command.Order.TheVariants as given_order
-use Rattle.snap_words.specs.declared.told.Told.{Told as Taken}
+use Rattle.snap_words.specs.declared.told.Arguments.{Arguments as Taken}
 
 -- the texts that references lend
 abbrev pub lent : List (Bor Text) → List Text
@@ -31,12 +31,12 @@ abbrev pub is_among_or_none : List Text → Option Text → Bool
 is_among_or_none words None = true
 is_among_or_none words (Some name) = is_among words name
 
-abbrev pub has_values_among : List Text → Told → Bool
+abbrev pub has_values_among : List Text → ArgumentsView → Bool
 has_values_among words t = is_among_or_none words (t.values schedule_option)
     && is_among_or_none words (t.values changes_option) && is_among_or_none words (t.values workers_option)
 
 -- all names and values that were told end some word
-abbrev pub said_among : List Text → Told → Bool
+abbrev pub said_among : List Text → ArgumentsView → Bool
 said_among words t = are_among words t.names && has_values_among words t
 
 -- what the code was told
@@ -50,7 +50,7 @@ values_of t schedule_option = option_map (λ s. s.now) t.schedule
 values_of t changes_option = option_map (λ s. s.now) t.changes
 values_of t workers_option = option_map (λ s. s.now) t.workers
 
-abbrev pub said : Taken → Told
+abbrev pub said : Taken → ArgumentsView
 said t = record { flags = flags_of t; values = values_of t; names = lent t.names.items }
 
 -- the order that an answer gives
@@ -58,7 +58,7 @@ abbrev pub shown_order : GivenOrder → Order
 shown_order given_order.Plain = plain
 shown_order (given_order.Schedule file) = schedule file.now
 shown_order (given_order.Changes file) = changes file.now
-shown_order (given_order.InTurn lines) = in_turn (option_map (λ s. s.now) lines)
+shown_order (given_order.InOrder lines) = in_order (option_map (λ s. s.now) lines)
 shown_order (given_order.Rounds workers) = rounds workers.value
 
 -- the command that an answer gives

@@ -89,32 +89,32 @@ abbrev pub word_of : Text → Word
 word_of word = unwrap_or (option_map behind_dashes (option_and_then behind_hyphen (behind_hyphen word))) name_word
 
 -- ---- what words say
-pub record Told : Type 0 where
+pub record ArgumentsView : Type 0 where
   pub flags : Flag → Bool
   pub values : Valued → Option Text
   pub names : List Text
 
-abbrev pub nothing : Told
+abbrev pub nothing : ArgumentsView
 nothing = record { flags = λ f. false; values = λ o. None; names = [] }
 
-abbrev pub flagged : Told → Flag → Told
+abbrev pub flagged : ArgumentsView → Flag → ArgumentsView
 flagged t f = record t { flags = λ g. if is_same_flag f g then true else t.flags g }
 
-abbrev pub valued : Told → Valued → Text → Told
+abbrev pub valued : ArgumentsView → Valued → Text → ArgumentsView
 valued t o value = record t { values = λ p. if is_same_option o p then Some value else t.values p }
 
 -- an option comes at most once
-abbrev pub with_flag : Told → Flag → Option Told
+abbrev pub with_flag : ArgumentsView → Flag → Option ArgumentsView
 with_flag t f = if t.flags f then None else Some (flagged t f)
 
-abbrev pub with_value : Told → Valued → Text → Option Told
+abbrev pub with_value : ArgumentsView → Valued → Text → Option ArgumentsView
 with_value t o value = if is_some (t.values o) then None else Some (valued t o value)
 
-abbrev pub with_names : Told → List Text → Told
+abbrev pub with_names : ArgumentsView → List Text → ArgumentsView
 with_names t names = record t { names = t.names ++ names }
 
 -- what a word adds; `next` reads the words behind it, where perhaps an option waits for its value. Behind `--` all are names
-abbrev pub add : Word → Told → Text → List Text → (Option Valued → Told → Option Told) → Option Told
+abbrev pub add : Word → ArgumentsView → Text → List Text → (Option Valued → ArgumentsView → Option ArgumentsView) → Option ArgumentsView
 add end_of_options t word words next = Some (with_names t words)
 add (flag_word f) t word words next = option_and_then (next None) (with_flag t f)
 add (option_word o) t word words next = next (Some o) t
@@ -122,11 +122,11 @@ add (value_word o value) t word words next = option_and_then (next None) (with_v
 add name_word t word words next = next None (with_names t (word ∷ []))
 
 -- what words say after what was said before; an option may wait for its value
-abbrev pub tell : List Text → (waits : Option Valued) → Told → Option Told
-tell [] None t = Some t
-tell [] (Some o) t = None
-tell (word ∷ words) None t = add (word_of word) t word words (tell words)
-tell (word ∷ words) (Some o) t = option_and_then (tell words None) (with_value t o word)
+abbrev pub arguments_of : List Text → (waits : Option Valued) → ArgumentsView → Option ArgumentsView
+arguments_of [] None t = Some t
+arguments_of [] (Some o) t = None
+arguments_of (word ∷ words) None t = add (word_of word) t word words (arguments_of words)
+arguments_of (word ∷ words) (Some o) t = option_and_then (arguments_of words None) (with_value t o word)
 
 -- a name, and the value of an option, is not empty and does not begin with `-`
 abbrev pub is_name : Text → Bool
@@ -137,17 +137,17 @@ abbrev pub is_name_or_none : Option Text → Bool
 is_name_or_none None = true
 is_name_or_none (Some value) = is_name value
 
-abbrev pub has_values : Told → Bool
+abbrev pub has_values : ArgumentsView → Bool
 has_values t = is_name_or_none (t.values schedule_option)
     && is_name_or_none (t.values changes_option) && is_name_or_none (t.values workers_option)
 
-abbrev pub has_names : Told → Bool
+abbrev pub has_names : ArgumentsView → Bool
 has_names t = list_all is_name t.names && has_values t
 
 -- nothing where a name or a value isn't one
-abbrev pub checked : Told → Option Told
+abbrev pub checked : ArgumentsView → Option ArgumentsView
 checked t = if has_names t then Some t else None
 
 -- what the words behind a command say, where they are of the form
-abbrev pub told_by : List Text → Option Told
-told_by words = option_and_then checked (tell words None nothing)
+abbrev pub told_by : List Text → Option ArgumentsView
+told_by words = option_and_then checked (arguments_of words None nothing)

@@ -10,7 +10,7 @@ ghost use Rattle.snap_words.specs.Said.{are_among, bytes_of, has_values_among, i
 use crate::command::{Command, Order};
 use crate::count::count_of;
 use crate::fault::WordsFault;
-use crate::told::{self, Told};
+use crate::told::{self, Arguments};
 use std::alloc::Global;
 
 /// The command that the words behind the program's name give, with its files' names lent from the
@@ -62,7 +62,7 @@ fn text(word: &[u8]) -> Result<&str, WordsFault>
 }
 
 /// The command of a first word and of what the others say. Options are of `trace` and `compile` alone.
-fn command_for<'a>(words: &'a [Vec<u8>], first: &str, told: &Told) -> Option<Command<'a>>
+fn command_for<'a>(words: &'a [Vec<u8>], first: &str, told: &Arguments) -> Option<Command<'a>>
     requires { IsTrue (said_among (bytes_of words.now) (said told.now)) }
     ensures { option_map shown result ≡ command_for first.now (said told.now) }
 {
@@ -91,7 +91,7 @@ fn plain_command<'a>(words: &'a [Vec<u8>], first: &str, names: &[&str]) -> Optio
 }
 
 /// The names behind a command that has no options.
-fn names_alone<'t>(told: &'t Told) -> Option<&'t [&'t str]>
+fn names_alone<'t>(told: &'t Arguments) -> Option<&'t [&'t str]>
     ensures { option_map (λ s. lent s.now) result ≡ names_alone (said told.entry.now) }
 {
     if has_options(told) {
@@ -102,14 +102,14 @@ fn names_alone<'t>(told: &'t Told) -> Option<&'t [&'t str]>
 }
 
 /// Whether an option was there.
-fn has_options(told: &Told) -> bool
+fn has_options(told: &Arguments) -> bool
     ensures { result ≡ has_options (said told.now) }
 {
     told.on_demand || has_trace_options(told)
 }
 
 /// Whether an option of `trace` was there.
-fn has_trace_options(told: &Told) -> bool
+fn has_trace_options(told: &Arguments) -> bool
     ensures { result ≡ has_trace_options (said told.now) }
 {
     told.hops
@@ -206,7 +206,7 @@ fn demo<'a>(names: &[&str]) -> Option<Command<'a>>
     }
 }
 
-fn compile<'a>(words: &'a [Vec<u8>], told: &Told) -> Option<Command<'a>>
+fn compile<'a>(words: &'a [Vec<u8>], told: &Arguments) -> Option<Command<'a>>
     requires { IsTrue (said_among (bytes_of words.now) (said told.now)) }
     ensures { option_map shown result ≡ compile_for (said told.now) }
 {
@@ -224,7 +224,7 @@ fn compile<'a>(words: &'a [Vec<u8>], told: &Told) -> Option<Command<'a>>
     }
 }
 
-fn trace<'a>(words: &'a [Vec<u8>], told: &Told) -> Option<Command<'a>>
+fn trace<'a>(words: &'a [Vec<u8>], told: &Arguments) -> Option<Command<'a>>
     requires { IsTrue (said_among (bytes_of words.now) (said told.now)) }
     ensures { option_map shown result ≡ trace_for (said told.now) }
 {
@@ -244,7 +244,7 @@ fn trace<'a>(words: &'a [Vec<u8>], told: &Told) -> Option<Command<'a>>
 }
 
 /// The order of a run, where its options go together.
-fn order<'a>(words: &'a [Vec<u8>], told: &Told) -> Option<Order<'a>>
+fn order<'a>(words: &'a [Vec<u8>], told: &Arguments) -> Option<Order<'a>>
     requires { IsTrue (has_values_among (bytes_of words.now) (said told.now)) }
     ensures { option_map shown_order result ≡ order_of (said told.now) }
 {
@@ -256,8 +256,8 @@ fn order<'a>(words: &'a [Vec<u8>], told: &Told) -> Option<Order<'a>>
         (false, None, Some(file), None) => Some(Order::Changes {
             file: word(words, file),
         }),
-        (true, None, None, None) => Some(Order::InTurn { schedule: None }),
-        (true, Some(file), None, None) => Some(Order::InTurn {
+        (true, None, None, None) => Some(Order::InOrder { schedule: None }),
+        (true, Some(file), None, None) => Some(Order::InOrder {
             schedule: Some(word(words, file)),
         }),
         (true, None, None, Some(count)) => rounds(count),

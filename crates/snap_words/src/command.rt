@@ -12,7 +12,7 @@ pub enum Order<'a> {
     /// One packet after the other, between changes of tables by the lines of a file (`--changes`).
     Changes { file: &'a [u8] },
     /// Each rank's packets in their turn (`--ordered`): one packet after the other, or the events of a file (`--schedule`).
-    InTurn { schedule: Option<&'a [u8]> },
+    InOrder { schedule: Option<&'a [u8]> },
     /// The same by rounds, in which so many workers make the steps (`--ordered` with `--workers`).
     Rounds { workers: Count },
 }

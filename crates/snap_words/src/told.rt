@@ -15,7 +15,7 @@ use std::alloc::{AllocError, Global};
 
 /// What words say.
 #[derive(Drop)]
-pub struct Told<'a> {
+pub struct Arguments<'a> {
     /// `--hops` was there.
     pub hops: bool,
     /// `--ordered` was there.
@@ -34,13 +34,13 @@ pub struct Told<'a> {
 
 /// What the words behind a command say. `Usage` where they are not of the form: an option that is
 /// unknown or comes twice, or a name or a value that is empty or begins with `-`.
-pub(crate) fn read<'a>(alloc: Global, words: &'a [&'a str]) -> Result<Told<'a>, WordsFault>
+pub(crate) fn read<'a>(alloc: Global, words: &'a [&'a str]) -> Result<Arguments<'a>, WordsFault>
     requires { IsTrue (list_all is_utf8 (lent words.now)) }
     ensures ok { IfOk result (λ t. told_by (lent words.entry.now) ≡ Some (said t)) }
     ensures usage { IfErr result (λ e. e ≡ WordsFault.Usage → told_by (lent words.entry.now) ≡ None) }
 {
     let matches = matches_of(alloc, words)?;
-    let told = Told {
+    let told = Arguments {
         hops: matches.get_flag("hops"),
         ordered: matches.get_flag("ordered"),
         on_demand: matches.get_flag("on-demand"),
@@ -136,13 +136,13 @@ fn names_in<'a>(alloc: Global, matches: &ArgMatches<'a>) -> Result<Vec<&'a str>,
 }
 
 /// Whether all names and values are. `clap` takes any word behind `--`, and an empty one.
-fn has_names(told: &Told) -> bool
+fn has_names(told: &Arguments) -> bool
     ensures { result ≡ has_names (said told.now) }
 {
     all_names(told.names.as_slice()) && has_values(told)
 }
 
-fn has_values(told: &Told) -> bool
+fn has_values(told: &Arguments) -> bool
     ensures { result ≡ has_values (said told.now) }
 {
     is_name_or_none(told.schedule) && is_name_or_none(told.changes) && is_name_or_none(told.workers)

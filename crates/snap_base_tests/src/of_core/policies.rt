@@ -1,5 +1,5 @@
 use crate::given::program;
-use snap_core::copies::Flow;
+use snap_core::copies::Effect;
 use snap_core::eval::{eval, run_on};
 use snap_core::outcome::{EvalFault, Outcome};
 use snap_core::packet::Packet;
@@ -105,7 +105,7 @@ fn becomes(
         return Err("the policy doesn't fit")?;
     }
     match run_on(alloc, pol, &mut store, &mut packet) {
-        Ok(ran) => Ok(matches!(ran.flow, Flow::Same) && packet.comps() == wanted.as_slice()),
+        Ok(ran) => Ok(matches!(ran.flow, Effect::Same) && packet.comps() == wanted.as_slice()),
         Err(EvalFault::Undefined) => Ok(false),
         Err(EvalFault::NoMemory) => Err("out of memory")?,
     }

@@ -6,7 +6,7 @@ use Rattle.snap_names.specs.Senses.{NoMemory, after}
 use Rattle.snap_names.specs.Declarations.{core_program, limited}
 use Rattle.snap_names.specs.Scopes.{Limits, declared_in}
 use Rattle.snap_names.proofs.Resolving.{AreDeclared, AreDeclared-more, resolved-refused, AreDeclared-rest, map-drop, drop-all, IfErr-from, resolved-read, resolved-limited}
-use Rattle.snap_names.proofs.InForm.{IfOk-bounded, IfOk-in_form, IsFields-declared}
+use Rattle.snap_names.proofs.WellFormed.{IfOk-bounded, IfOk-well_formed, IsFields-declared}
 use Rattle.snap_names.proofs.DerivedTrees.{SourceWritten-text}
 use Rattle.snap_names.proofs.resolve.Goals as goal
 
@@ -49,8 +49,8 @@ returns-clause-ok c =
 pub returns-clause-bounded : goal.returns-clause-bounded
 returns-clause-bounded c = IfOk-bounded c.args.text.now (source_tree c.args.source.now) c.limited.result (returns-clause-ok c)
 
-pub returns-clause-in_form : goal.returns-clause-in_form
-returns-clause-in_form c = λ h. IfOk-in_form c.args.text.now (source_tree c.args.source.now) c.limited.result (SourceWritten-text c.args.text.now (source_tree c.args.source.now) h) (returns-clause-ok c)
+pub returns-clause-well_formed : goal.returns-clause-well_formed
+returns-clause-well_formed c = λ h. IfOk-well_formed c.args.text.now (source_tree c.args.source.now) c.limited.result (SourceWritten-text c.args.text.now (source_tree c.args.source.now) h) (returns-clause-ok c)
 
 pub returns-clause-refused : goal.returns-clause-refused
 returns-clause-refused c =

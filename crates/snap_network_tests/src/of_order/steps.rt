@@ -1,4 +1,4 @@
-//! Steps in turn of worked tables.
+//! Steps in order of worked tables.
 
 ghost use Rattle.std.specs.Prelude.{◌≡◌, ◌∷◌, ◌<◌, ◌+◌, [], IfOk, OnOk};
 ghost use Rattle.snap_rows.specs.Form.{comps};
@@ -9,7 +9,7 @@ use snap_core::packet::Packet;
 use snap_net::happened::Happened;
 use snap_net::net::StepFault;
 use snap_order::net::{OrderedNet, open_ordered};
-use snap_order::turned::Turned;
+use snap_order::turned::OrderedHappened;
 use std::alloc::Global;
 use std::test::Fail;
 
@@ -31,17 +31,17 @@ enum Told {
 
 fn of_moved(happened: &Happened) -> Told {
     match happened {
-        Happened::Forwarded { owner, frame, .. } => Told::Forwarded(*owner, frame.len()),
+        Happened::Forwarded { number, frame, .. } => Told::Forwarded(*number, frame.len()),
         Happened::Delivered { .. } => Told::Moved,
         Happened::Forked { .. } => Told::Moved,
     }
 }
 
-fn summary(turned: &Turned) -> Told {
+fn summary(turned: &OrderedHappened) -> Told {
     match turned {
-        Turned::Moved(happened) => of_moved(happened),
-        Turned::Visited { owner, rank } => Told::Visited(*owner, *rank),
-        Turned::Waited { owner, rank } => Told::Waited(*owner, *rank),
+        OrderedHappened::Moved(happened) => of_moved(happened),
+        OrderedHappened::Visited { number, rank } => Told::Visited(*number, *rank),
+        OrderedHappened::Waited { number, rank } => Told::Waited(*number, *rank),
     }
 }
 

@@ -8,7 +8,7 @@ use snap_core::NoMemory;
 use snap_io::{MemoryShelf, MemorySink};
 use snap_order::gate::{Gate, NoGate};
 use snap_order::workers::trace_workers;
-use snap_trace::TraceFault;
+use snap_report::TraceFault;
 use std::alloc::{AllocError, Global};
 use std::sync::atomic::{AtomicU64, Ordering};
 use std::test::Fail;

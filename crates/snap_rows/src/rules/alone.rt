@@ -1,9 +1,9 @@
-//! Whether tables of version 1 are lone: from the highest number down, where the chains from each number stand.
+//! Whether tables of version 1 are single-owner: from the highest number down, where the chains from each number stand.
 
 ghost use Rattle.std.specs.Prelude.{◌≡◌, ◌↔◌, IfOk, IsTrue};
 ghost use Rattle.snap_rows.specs.Entries.{owner_of, var_of};
-ghost use Rattle.snap_rows.specs.Form.{IsInForm};
-ghost use Rattle.snap_rows.specs.Lone.{IsLone};
+ghost use Rattle.snap_rows.specs.Form.{IsWellFormed};
+ghost use Rattle.snap_rows.specs.SingleOwner.{IsSingleOwner};
 ghost use Rattle.snap_rows.specs.Rules.{IsValid};
 ghost use Rattle.snap_rows.specs.Standing.{beside, beside_owner, both, of_stages, of_node, standing_in, Splits};
 
@@ -120,13 +120,13 @@ fn splits(node: &Row, standing: Standing) -> bool
     }
 }
 
-/// Whether tables of version 1 are lone. The answer is no at the first row that stands apart from what comes after
+/// Whether tables of version 1 are single-owner. The answer is no at the first row that stands apart from what comes after
 /// it: in valid tables a chain from number 0 comes to each row.
-pub(crate) fn is_lone_one(alloc: Global, tables: &Tables) -> Result<bool, NoMemory>
-    requires form { IsInForm tables.now }
+pub(crate) fn is_single_owner_one(alloc: Global, tables: &Tables) -> Result<bool, NoMemory>
+    requires form { IsWellFormed tables.now }
     requires valid { IsValid tables.now }
     requires version { tables.now.version ≡ 1 }
-    ensures { IfOk result (λ lone. IsTrue lone ↔ IsLone tables.now) }
+    ensures { IfOk result (λ single_owner. IsTrue single_owner ↔ IsSingleOwner tables.now) }
 {
     let nodes = nodes(alloc, tables, 0)?;
     let mut rest = nodes.into_map();

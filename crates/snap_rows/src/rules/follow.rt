@@ -7,7 +7,7 @@ ghost use Rattle.snap_rows.specs.declared.tables.Rule.{Rule};
 ghost use Rattle.snap_rows.specs.Bodies.{lent};
 ghost use Rattle.snap_rows.specs.Entries.{row_at};
 ghost use Rattle.snap_rows.specs.Following.{IsMarked, IsNextMarked, ArePortsMarked, IsFollowed, Grows, AreMarked};
-ghost use Rattle.snap_rows.specs.Form.{IsInForm};
+ghost use Rattle.snap_rows.specs.Form.{IsWellFormed};
 ghost use Rattle.snap_rows.specs.Leads.{IsNumberAfter};
 ghost use Rattle.snap_rows.specs.Rules.{IsFirstSpot};
 ghost use Rattle.snap_rows.specs.Ways.{Reached};
@@ -37,7 +37,7 @@ impl Search {
         at: u16,
         number: u64,
     ) -> Result<(), NoMemory>
-        requires form { IsInForm tables.now }
+        requires form { IsWellFormed tables.now }
         requires long { length self.old.marks.items ≡ length tables.now.rows }
         requires row { IsSome (row_at tables.now at number) }
         requires reached { Reached tables.now at number }
@@ -74,7 +74,7 @@ impl Search {
         yes: u64,
         no: u64,
     ) -> Result<(), NoMemory>
-        requires form { IsInForm tables.now }
+        requires form { IsWellFormed tables.now }
         requires long { length self.old.marks.items ≡ length tables.now.rows }
         requires rows { (k : ℕ) → (k ≡ yes) ⊎ (k ≡ no) → IsSome (row_at tables.now at k) }
         requires reached { (k : ℕ) → (k ≡ yes) ⊎ (k ≡ no) → Reached tables.now at k }
@@ -93,7 +93,7 @@ impl Search {
         at: u16,
         row: &Row,
     ) -> Result<(), NoMemory>
-        requires form { IsInForm tables.now }
+        requires form { IsWellFormed tables.now }
         requires long { length self.old.marks.items ≡ length tables.now.rows }
         requires rows { (k : ℕ) → IsNumberAfter row.now k → IsSome (row_at tables.now at k) }
         requires reached { (k : ℕ) → IsNumberAfter row.now k → Reached tables.now at k }
@@ -118,7 +118,7 @@ impl Search {
         switches: &[u16],
         number: u64,
     ) -> Result<(), NoMemory>
-        requires form { IsInForm tables.now }
+        requires form { IsWellFormed tables.now }
         requires long { length self.old.marks.items ≡ length tables.now.rows }
         requires rows { All (λ x. IsSome (row_at tables.now x number)) switches.now }
         requires reached { All (λ x. Reached tables.now x number) switches.now }
@@ -139,7 +139,7 @@ impl Search {
         entry: Lent<'_>,
         over: &mut Vec<u16>,
     ) -> Result<(), NoMemory>
-        requires form { IsInForm tables.now }
+        requires form { IsWellFormed tables.now }
         requires loops { IsFirstSpot tables.now Rule.Loop None }
         requires missing { IsFirstSpot tables.now Rule.Missing None }
         requires long { length self.old.marks.items ≡ length tables.now.rows }
@@ -156,7 +156,7 @@ impl Search {
 
 // The search that has come to the ports.
 fn from_ports(alloc: Global, tables: &Tables, guesses: &Guesses) -> Result<Search, NoMemory>
-    requires form { IsInForm tables.now }
+    requires form { IsWellFormed tables.now }
     requires missing { IsFirstSpot tables.now Rule.Missing None }
     ensures long { IfOk result (λ search. length search.marks.items ≡ length tables.now.rows) }
     ensures followed { IfOk result (λ search. IsFollowed tables.now search.marks.items search.left.items) }
@@ -178,7 +178,7 @@ pub(crate) fn reached_rows(
     tables: &Tables,
     guesses: &Guesses,
 ) -> Result<Vec<bool>, NoMemory>
-    requires form { IsInForm tables.now }
+    requires form { IsWellFormed tables.now }
     requires loops { IsFirstSpot tables.now Rule.Loop None }
     requires kind { IsFirstSpot tables.now Rule.Kind None }
     requires missing { IsFirstSpot tables.now Rule.Missing None }

@@ -6,7 +6,7 @@ ghost use Rattle.snap_rows.specs.declared.tables.Rule.{Rule};
 ghost use Rattle.snap_rows.specs.declared.tables.Stage.{Stage};
 ghost use Rattle.snap_rows.specs.declared.tables.Row.TheVariants.{Leaf};
 ghost use Rattle.snap_rows.specs.Entries.{Parts, row_at, rank_at, rank_of, var_of};
-ghost use Rattle.snap_rows.specs.Form.{IsInForm, IsRowInForm, IsTurnInForm, switch_count};
+ghost use Rattle.snap_rows.specs.Form.{IsWellFormed, IsRowWellFormed, IsLeafStageWellFormed, switch_count};
 ghost use Rattle.snap_rows.specs.Leads.{IsNumberAfter, AreLedOver, AreLedNext};
 ghost use Rattle.snap_rows.specs.Rules.{IsFirstSpot};
 ghost use Rattle.snap_rows.specs.Ways.{Way, Route, OwnsBelow};
@@ -19,7 +19,7 @@ use snap_core::policy::Test;
 
 /// Whether a switch has a row of a number.
 pub(crate) fn has_row(tables: &Tables, guesses: &Guesses, at: u16, number: u64) -> bool
-    requires { IsInForm tables.now }
+    requires { IsWellFormed tables.now }
     ensures { IsTrue result ↔ IsSome (row_at tables.now at number) }
 {
     let guess = guesses.place(at, number);
@@ -27,7 +27,7 @@ pub(crate) fn has_row(tables: &Tables, guesses: &Guesses, at: u16, number: u64) 
 }
 
 fn has_both(tables: &Tables, guesses: &Guesses, at: u16, yes: u64, no: u64) -> bool
-    requires { IsInForm tables.now }
+    requires { IsWellFormed tables.now }
     ensures { IsTrue result ↔ ((k : ℕ) → (k ≡ yes) ⊎ (k ≡ no) → IsSome (row_at tables.now at k)) }
 {
     has_row(tables, guesses, at, yes) && has_row(tables, guesses, at, no)
@@ -35,7 +35,7 @@ fn has_both(tables: &Tables, guesses: &Guesses, at: u16, yes: u64, no: u64) -> b
 
 /// Whether the numbers to which a test row leads have rows at its switch.
 pub(crate) fn numbers_have_rows(tables: &Tables, guesses: &Guesses, at: u16, row: &Row) -> bool
-    requires { IsInForm tables.now }
+    requires { IsWellFormed tables.now }
     ensures { IsTrue result ↔ ((k : ℕ) → IsNumberAfter row.now k → IsSome (row_at tables.now at k)) }
 {
     match row {
@@ -71,7 +71,7 @@ fn owners(tables: &Tables, below: u16, owners: &mut Vec<u16>) -> Result<(), NoMe
 
 // The owners of the ranks up to that of a state test, in place of what the list held; none in version 1.
 fn owners_up_to(tables: &Tables, test: &Test, over: &mut Vec<u16>) -> Result<(), NoMemory>
-    requires { IsInForm tables.now }
+    requires { IsWellFormed tables.now }
     ensures { OnOk result ((x : ℕ) → ((tables.now.version ≡ 2) × OwnsBelow tables.now (suc (rank_of tables.now (var_of test.now))) x) ↔ Contains over.new.items x) }
 {
     if tables.version != 2 {
@@ -84,7 +84,7 @@ fn owners_up_to(tables: &Tables, test: &Test, over: &mut Vec<u16>) -> Result<(),
 
 // Puts the switches after one on the way to a target at the end.
 fn add_way(tables: &Tables, from: u16, target: u16, way: &mut Vec<u16>) -> Result<(), NoMemory>
-    requires form { IsInForm tables.now }
+    requires form { IsWellFormed tables.now }
     requires loops { IsFirstSpot tables.now Rule.Loop None }
     requires from { from < switch_count tables.now }
     requires target { target < switch_count tables.now }
@@ -103,10 +103,10 @@ fn add_way(tables: &Tables, from: u16, target: u16, way: &mut Vec<u16>) -> Resul
 
 // The switches after one on the way to the switches of stages, one after another, in place of what the list held.
 fn route(tables: &Tables, at: u16, stages: &[Stage], way: &mut Vec<u16>) -> Result<(), NoMemory>
-    requires form { IsInForm tables.now }
+    requires form { IsWellFormed tables.now }
     requires loops { IsFirstSpot tables.now Rule.Loop None }
     requires at { at < switch_count tables.now }
-    requires stages { All (IsTurnInForm tables.now) stages.now }
+    requires stages { All (IsLeafStageWellFormed tables.now) stages.now }
     ensures { OnOk result (Route tables.now at (map (λ (s : Stage). s.at) stages.now) way.new.items) }
 {
     way.clear();
@@ -135,10 +135,10 @@ pub(crate) fn led_over(
     row: &Row,
     over: &mut Vec<u16>,
 ) -> Result<(), NoMemory>
-    requires form { IsInForm tables.now }
+    requires form { IsWellFormed tables.now }
     requires loops { IsFirstSpot tables.now Rule.Loop None }
     requires at { at < switch_count tables.now }
-    requires row { IsRowInForm tables.now row.now }
+    requires row { IsRowWellFormed tables.now row.now }
     ensures { OnOk result (AreLedOver tables.now at row.now over.new.items) }
 {
     match row {
@@ -161,10 +161,10 @@ fn leaf_next(
     stages: &[Stage],
     over: &mut Vec<u16>,
 ) -> Result<(), NoMemory>
-    requires form { IsInForm tables.now }
+    requires form { IsWellFormed tables.now }
     requires loops { IsFirstSpot tables.now Rule.Loop None }
     requires at { at < switch_count tables.now }
-    requires stages { All (IsTurnInForm tables.now) stages.now }
+    requires stages { All (IsLeafStageWellFormed tables.now) stages.now }
     ensures { OnOk result ((outs : List Parts) → AreLedNext tables.now at (Leaf stages.now outs) over.new.items) }
 {
     if stages.len() > 0 && stages[0].at != at {
@@ -181,10 +181,10 @@ pub(crate) fn led_next(
     row: &Row,
     over: &mut Vec<u16>,
 ) -> Result<(), NoMemory>
-    requires form { IsInForm tables.now }
+    requires form { IsWellFormed tables.now }
     requires loops { IsFirstSpot tables.now Rule.Loop None }
     requires at { at < switch_count tables.now }
-    requires row { IsRowInForm tables.now row.now }
+    requires row { IsRowWellFormed tables.now row.now }
     ensures { OnOk result (AreLedNext tables.now at row.now over.new.items) }
 {
     match row {

@@ -6,7 +6,7 @@ ghost use Rattle.snap_rows.specs.declared.tables.Row.{Row};
 ghost use Rattle.snap_rows.specs.declared.tables.Rule.{Rule};
 ghost use Rattle.snap_rows.specs.declared.tables.Spot.{Spot};
 ghost use Rattle.snap_rows.specs.Entries.{row_at};
-ghost use Rattle.snap_rows.specs.Form.{IsInForm, IsRowInForm, switch_count};
+ghost use Rattle.snap_rows.specs.Form.{IsWellFormed, IsRowWellFormed, switch_count};
 ghost use Rattle.snap_rows.specs.Leads.{HaveRows, HaveNext};
 ghost use Rattle.snap_rows.specs.Rules.{Keeps, IsFirstSpot};
 
@@ -19,7 +19,7 @@ use std::alloc::Global;
 
 // Whether a number has a row at each of these switches.
 fn all_have_rows(tables: &Tables, guesses: &Guesses, switches: &[u16], number: u64) -> bool
-    requires { IsInForm tables.now }
+    requires { IsWellFormed tables.now }
     ensures { IsTrue result ↔ All (λ x. IsSome (row_at tables.now x number)) switches.now }
 {
     switches
@@ -34,10 +34,10 @@ fn leads_have_rows(
     entry: Lent<'_>,
     over: &mut Vec<u16>,
 ) -> Result<bool, NoMemory>
-    requires form { IsInForm tables.now }
+    requires form { IsWellFormed tables.now }
     requires loops { IsFirstSpot tables.now Rule.Loop None }
     requires at { entry.at < switch_count tables.now }
-    requires row { IsRowInForm tables.now entry.row.now }
+    requires row { IsRowWellFormed tables.now entry.row.now }
     ensures { IfOk result (λ all. IsTrue all ↔ HaveRows tables.now entry.entry.at entry.entry.number entry.entry.row.now) }
 {
     if !numbers_have_rows(tables, guesses, entry.at, entry.row) {
@@ -54,10 +54,10 @@ fn next_have_rows(
     entry: Lent<'_>,
     over: &mut Vec<u16>,
 ) -> Result<bool, NoMemory>
-    requires form { IsInForm tables.now }
+    requires form { IsWellFormed tables.now }
     requires loops { IsFirstSpot tables.now Rule.Loop None }
     requires at { entry.at < switch_count tables.now }
-    requires row { IsRowInForm tables.now entry.row.now }
+    requires row { IsRowWellFormed tables.now entry.row.now }
     ensures { IfOk result (λ all. IsTrue all → HaveNext tables.now entry.entry.at entry.entry.number entry.entry.row.now) }
 {
     if !numbers_have_rows(tables, guesses, entry.at, entry.row) {
@@ -69,7 +69,7 @@ fn next_have_rows(
 
 // Whether each pair to which a row leads at once has a row, for all rows. Then each pair to which a row leads has one.
 fn all_next_have_rows(alloc: Global, tables: &Tables, guesses: &Guesses) -> Result<bool, NoMemory>
-    requires form { IsInForm tables.now }
+    requires form { IsWellFormed tables.now }
     requires loops { IsFirstSpot tables.now Rule.Loop None }
     ensures { IfOk result (λ all. IsTrue all → (w n : ℕ) (b : Row) → row_at tables.now w n ≡ Some b → HaveNext tables.now w n b) }
 {
@@ -84,7 +84,7 @@ fn all_next_have_rows(alloc: Global, tables: &Tables, guesses: &Guesses) -> Resu
 
 // The first port at whose switch number 0 has no row.
 fn port_spot(tables: &Tables, guesses: &Guesses) -> Option<Spot>
-    requires { IsInForm tables.now }
+    requires { IsWellFormed tables.now }
     ensures some { IfSome result (λ s. IsFirstSpot tables.now Rule.Missing (Some s)) }
     ensures none { IfNone result ((i : ℕ) → Keeps tables.now Rule.Missing (Spot.Port i)) }
 {
@@ -98,7 +98,7 @@ fn port_spot(tables: &Tables, guesses: &Guesses) -> Option<Spot>
 
 // The first row that leads to a pair without a row, where all ports have theirs.
 fn row_spot(alloc: Global, tables: &Tables, guesses: &Guesses) -> Result<Option<Spot>, NoMemory>
-    requires form { IsInForm tables.now }
+    requires form { IsWellFormed tables.now }
     requires loops { IsFirstSpot tables.now Rule.Loop None }
     requires ports { (i : ℕ) → Keeps tables.now Rule.Missing (Spot.Port i) }
     ensures { IfOk result (IsFirstSpot tables.now Rule.Missing) }
@@ -118,7 +118,7 @@ fn row_spot_if_any(
     tables: &Tables,
     guesses: &Guesses,
 ) -> Result<Option<Spot>, NoMemory>
-    requires form { IsInForm tables.now }
+    requires form { IsWellFormed tables.now }
     requires loops { IsFirstSpot tables.now Rule.Loop None }
     requires kind { IsFirstSpot tables.now Rule.Kind None }
     requires ports { (i : ℕ) → Keeps tables.now Rule.Missing (Spot.Port i) }
@@ -136,7 +136,7 @@ pub(crate) fn missing_spot(
     tables: &Tables,
     guesses: &Guesses,
 ) -> Result<Option<Spot>, NoMemory>
-    requires form { IsInForm tables.now }
+    requires form { IsWellFormed tables.now }
     requires loops { IsFirstSpot tables.now Rule.Loop None }
     requires kind { IsFirstSpot tables.now Rule.Kind None }
     ensures { IfOk result (IsFirstSpot tables.now Rule.Missing) }

@@ -2,7 +2,7 @@
 
 ghost use Rattle.std.specs.Prelude.{None, IfOk};
 ghost use Rattle.snap_rows.specs.declared.tables.Rule.{Rule};
-ghost use Rattle.snap_rows.specs.Form.{IsInForm};
+ghost use Rattle.snap_rows.specs.Form.{IsWellFormed};
 ghost use Rattle.snap_rows.specs.Rules.{IsFirstSpot};
 
 use crate::guesses::Guesses;
@@ -17,7 +17,7 @@ pub(crate) fn spare_spot(
     tables: &Tables,
     guesses: &Guesses,
 ) -> Result<Option<Spot>, NoMemory>
-    requires form { IsInForm tables.now }
+    requires form { IsWellFormed tables.now }
     requires loops { IsFirstSpot tables.now Rule.Loop None }
     requires kind { IsFirstSpot tables.now Rule.Kind None }
     requires missing { IsFirstSpot tables.now Rule.Missing None }

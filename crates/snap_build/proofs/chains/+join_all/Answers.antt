@@ -29,7 +29,7 @@ join_all-requires-2 t c =
       omega (arith, n, cut, c.decreases),
       (
         omega (arith, n, cut),
-        subst (All L) (sym c.split_at.ensures.back) (All-drop L _ c.args.links.now (links_kept g v c.args.nodes.now c.join_all.new.nodes c.args.links.now c.join_all.ensures.grew c.requires.links)),
+        subst (All L) (sym c.split_at.ensures.back) (All-drop L _ c.args.links.now (links_kept g v c.args.nodes.now c.join_all.new.nodes c.args.links.now c.join_all.ensures.extends_arena c.requires.links)),
       ),
     )
 
@@ -37,7 +37,7 @@ pub join_two-requires : goal.join_two-requires
 join_two-requires t c =
     let g = c.args.groups.now in let v = c.args.ctx.now in
     record {
-      a = own_kept g v c.join_all.new.nodes c.join_all-2.new.nodes c.in_ok-first.first c.join_all-2.ensures.grew (own_link g v _ _ c.join_all.new.nodes c.in_ok-first.first c.in_ok-first.ensures.link);
+      a = own_kept g v c.join_all.new.nodes c.join_all-2.new.nodes c.in_ok-first.first c.join_all-2.ensures.extends_arena (own_link g v _ _ c.join_all.new.nodes c.in_ok-first.first c.in_ok-first.ensures.link);
       b = own_link g v _ _ c.join_all-2.new.nodes c.in_ok-second.second c.in_ok-second.ensures.link;
     }
 
@@ -53,9 +53,9 @@ returns-clause-link t c =
     let front = c.split_at.result.0.now in let back = c.split_at.result.1.now in
     let L = IsLink g v old in
     let backs = subst (All L) (sym c.split_at.ensures.back) (All-drop L _ c.args.links.now c.requires.links) in
-    let first = link_kept g v (holding any old front) (reading old front) mid new c.in_ok-first.first c.join_all-2.ensures.grew c.in_ok-first.ensures.link in
+    let first = link_kept g v (holding any old front) (reading old front) mid new c.in_ok-first.first c.join_all-2.ensures.extends_arena c.in_ok-first.ensures.link in
     let second = link_same g v (holding any mid back) (holding any old back) (reading mid back) (reading old back) new c.in_ok-second.second
-    (λ m k met. (holding_kept any g v old mid back c.join_all.ensures.grew backs m k, reading_kept g v old mid back c.join_all.ensures.grew backs m k)) c.in_ok-second.ensures.link in
+    (λ m k met. (holding_kept any g v old mid back c.join_all.ensures.extends_arena backs m k, reading_kept g v old mid back c.join_all.ensures.extends_arena backs m k)) c.in_ok-second.ensures.link in
     let whole : front ++ back ≡ c.args.links.now = (λ i. c.split_at.ensures.front i ++ c.split_at.ensures.back i) ∙ take-append-drop _ c.args.links.now in
     IfOk-weaker c.join_two.result _ _ (λ l h. whole_chain any g v old c.join_two.new.nodes front back c.args.links.now l whole
     (two_links any g v (holding any old front) (holding any old back) (reading old front) (reading old back) new c.join_two.new.nodes c.in_ok-first.first c.in_ok-second.second l first second h)) c.join_two.ensures.link

@@ -1,6 +1,6 @@
 -- A set put in front.
 use Rattle.std.proofs.Common.{arith}
-use Rattle.snap_fdd.specs.Picks.{sizes}
+use Rattle.snap_diagrams.specs.Picks.{sizes}
 use Rattle.snap_core.proofs.Results.{IfOk-both}
 use Rattle.snap_build.specs.Parts.{EndsInSet}
 use Rattle.snap_build.proofs.Sending.{then_does}

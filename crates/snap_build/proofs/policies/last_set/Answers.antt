@@ -3,7 +3,7 @@ use Rattle.std.proofs.Common.{◌<◌, sym, ap, subst, ◌∙◌, rules}
 use Rattle.snap_core.specs.declared.policy.Pol.{size-Pol, the_lemmas}
 use Rattle.snap_core.specs.Laws.{PutsSmall}
 use Rattle.snap_core.specs.Meaning.{eval}
-use Rattle.snap_chain.specs.Sequence.{in_sequence}
+use Rattle.snap_compose.specs.Sequence.{in_sequence}
 use Rattle.snap_build.specs.Parts.{PolIn, IsSet}
 use Rattle.snap_build.proofs.policies.last_set.Goals as goal
 

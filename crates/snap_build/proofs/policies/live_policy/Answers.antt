@@ -1,5 +1,5 @@
 -- A run of sets, or a policy pruned.
-use Rattle.snap_fdd.specs.Picks.{sizes}
+use Rattle.snap_diagrams.specs.Picks.{sizes}
 use Rattle.snap_core.proofs.Results.{IfOk-both}
 use Rattle.snap_build.specs.Parts.{EndsInSet}
 use Rattle.snap_build.proofs.Sending.{sends_set, then_part}

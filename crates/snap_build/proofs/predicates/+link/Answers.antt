@@ -5,7 +5,7 @@ use Rattle.std.proofs.lemmas.Result.{IfOk-weaker}
 use Rattle.std.proofs.lemmas.Nat.{pow_below}
 use Rattle.snap_core.specs.declared.policy.Pred.{size-Pred, the_lemmas}
 use Rattle.snap_core.specs.Meaning.{truth, vars_of}
-use Rattle.snap_fdd.specs.Picks.{sizes}
+use Rattle.snap_diagrams.specs.Picks.{sizes}
 use Rattle.snap_build.specs.Chains.{AreLinks, IsLink, IsSplit, joined}
 use Rattle.snap_build.specs.Parts.{PredIn}
 use Rattle.snap_build.proofs.Chained.{chain_told, one_link, own_kept, own_link, pair_told, pushed_all, pushed_links, true_link, turned_told}
@@ -56,23 +56,23 @@ link-returns-in-Or-clause-link t c =
 pub chain-join_two-requires-clause-a : goal.chain-join_two-requires-clause-a
 chain-join_two-requires-clause-a t c =
     let g = c.args.groups.now in let v = c.args.ctx.now in
-    own_kept g v c.link.new.nodes c.link-then-is_none.new.nodes c.in_ok-first.first c.link-then-is_none.ensures.grew (own_link g v _ _ c.link.new.nodes c.in_ok-first.first c.in_ok-first.ensures.link)
+    own_kept g v c.link.new.nodes c.link-then-is_none.new.nodes c.in_ok-first.first c.link-then-is_none.ensures.extends_arena (own_link g v _ _ c.link.new.nodes c.in_ok-first.first c.in_ok-first.ensures.link)
 
 pub chain-returns-then-is_none-clause-link : goal.chain-returns-then-is_none-clause-link
 chain-returns-then-is_none-clause-link t c =
     IfOk-weaker c.join_two.result _ _ (λ l h. pair_told c.args.any c.args.groups.now c.args.ctx.now c.args.left.now c.args.right.now c.link.new.nodes c.link-then-is_none.new.nodes c.join_two.new.nodes c.in_ok-first.first c.in_ok-second.second l
-    c.link-then-is_none.ensures.grew c.in_ok-first.ensures.link c.in_ok-second.ensures.link h) c.join_two.ensures.link
+    c.link-then-is_none.ensures.extends_arena c.in_ok-first.ensures.link c.in_ok-second.ensures.link h) c.join_two.ensures.link
 
 pub chain-join_all-requires-clause-links : goal.chain-join_all-requires-clause-links
 chain-join_all-requires-clause-links t c =
     let g = c.args.groups.now in let v = c.args.ctx.now in
     subst (All (IsLink g v c.link-2.new.nodes)) (sym (c.deref.ensures.value ∙ c.in_ok-push.ensures.items))
-    (pushed_links c.args.any g v c.args.left.now c.args.right.now c.links.new.nodes c.link-2.new.nodes c.in_ok-links.links.items c.in_ok-last.last c.link-2.ensures.grew c.in_ok-links.ensures.links c.in_ok-last.ensures.link)
+    (pushed_links c.args.any g v c.args.left.now c.args.right.now c.links.new.nodes c.link-2.new.nodes c.in_ok-links.links.items c.in_ok-last.last c.link-2.ensures.extends_arena c.in_ok-links.ensures.links c.in_ok-last.ensures.link)
 
 pub chain-returns-clause-link : goal.chain-returns-clause-link
 chain-returns-clause-link t c =
     IfOk-weaker c.join_all.result _ _ (λ l h. chain_told c.args.any c.args.groups.now c.args.ctx.now c.args.left.now c.args.right.now c.links.new.nodes c.link-2.new.nodes c.join_all.new.nodes c.in_ok-links.links.items c.deref.result.now c.in_ok-last.last l
-    c.link-2.ensures.grew c.in_ok-links.ensures.links c.in_ok-last.ensures.link (c.deref.ensures.value ∙ c.in_ok-push.ensures.items) h) c.join_all.ensures.link
+    c.link-2.ensures.extends_arena c.in_ok-links.ensures.links c.in_ok-last.ensures.link (c.deref.ensures.value ∙ c.in_ok-push.ensures.items) h) c.join_all.ensures.link
 
 pub links-links-requires : goal.links-links-requires
 links-links-requires t c =
@@ -98,4 +98,4 @@ pub links-returns-in_ok-push-in-Some-clause-links : goal.links-returns-in_ok-pus
 links-returns-in_ok-push-in-Some-clause-links t c =
     let parts : IsSplit c.args.any c.args.pred.now c.in-Some.left.now c.in-Some.right.now = c.in-Some.ensures in
     pushed_all c.args.any c.args.groups.now c.args.ctx.now c.args.pred.now c.in-Some.left.now c.in-Some.right.now c.links.new.nodes c.link-in-Some.new.nodes c.in_ok-links-in-Some.links.items c.push-in-Some.new.self.items c.in_ok-last-in-Some.last
-    parts c.link-in-Some.ensures.grew c.in_ok-links-in-Some.ensures.links c.in_ok-last-in-Some.ensures.link c.in_ok-push-in-Some.ensures.items
+    parts c.link-in-Some.ensures.extends_arena c.in_ok-links-in-Some.ensures.links c.in_ok-last-in-Some.ensures.link c.in_ok-push-in-Some.ensures.items

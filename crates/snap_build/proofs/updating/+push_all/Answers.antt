@@ -2,7 +2,7 @@
 use Rattle.std.proofs.Common.{◌++◌, List, sym, ap, ◌∙◌, subst}
 use Rattle.std.proofs.lemmas.List.{append_assoc}
 use Rattle.snap_core.specs.declared.policy.Update.{Update}
-use Rattle.snap_chain.specs.Additions.{AreSame}
+use Rattle.snap_compose.specs.Additions.{AreSame}
 use Rattle.snap_build.specs.Parts.{updates_of}
 use Rattle.snap_build.proofs.Alone.{same_appended}
 use Rattle.snap_build.proofs.updating.+push_all.Goals as goal

@@ -2,13 +2,13 @@
 use Rattle.std.proofs.Common.{◌∙◌, ◌++◌, List, sym, ap, subst}
 use Rattle.std.proofs.lemmas.Result.{IfOk-weaker}
 use Rattle.snap_core.specs.declared.policy.Update.{Update}
-use Rattle.snap_fdd.specs.Bounds.{LeafIn}
-use Rattle.snap_fdd.specs.Contexts.{Met}
-use Rattle.snap_fdd.specs.Diagrams.{walk}
-use Rattle.snap_fdd.specs.Leaves.{answer_of, outcome_of}
-use Rattle.snap_fdd.specs.Picks.{sizes}
-use Rattle.snap_fdd.specs.Pruned.{IsLive}
-use Rattle.snap_chain.specs.Additions.{AreSame}
+use Rattle.snap_diagrams.specs.Bounds.{LeafIn}
+use Rattle.snap_diagrams.specs.Contexts.{Met}
+use Rattle.snap_diagrams.specs.Diagrams.{walk}
+use Rattle.snap_diagrams.specs.Leaves.{answer_of, outcome_of}
+use Rattle.snap_diagrams.specs.Picks.{sizes}
+use Rattle.snap_diagrams.specs.Pruned.{IsLive}
+use Rattle.snap_compose.specs.Additions.{AreSame}
 use Rattle.snap_build.specs.Parts.{update_leaf, updates_of}
 use Rattle.snap_build.proofs.Alone.{leaf_fits, leaf_evals}
 use Rattle.snap_build.proofs.updating.in_one.Goals as goal

@@ -3,9 +3,9 @@ use Rattle.std.specs.List.{All}
 use Rattle.std.specs.Prelude.{IfSome}
 use Rattle.std.proofs.lemmas.List.{drop_all, map-append, take_more}
 use Rattle.std.proofs.lemmas.List.Elements.{All-push}
-use Rattle.snap_move.specs.declared.change.Change.{Change}
-use Rattle.snap_move.specs.declared.later.Later.{Later}
-use Rattle.snap_move.specs.Shapes.{HaveOneShape}
+use Rattle.snap_runs.specs.declared.change.Change.{Change}
+use Rattle.snap_runs.specs.declared.later.Later.{Later}
+use Rattle.snap_runs.specs.Shapes.{HaveOneShape}
 use Rattle.snap_cli.proofs.ChangesLemmas.{Loaded, told-all, told-more, told-no_more}
 use Rattle.snap_cli.specs.ChangesSteps.{LoadsLaters, afters, afters_of}
 use Rattle.snap_cli.proofs.Relayed.{relayed}

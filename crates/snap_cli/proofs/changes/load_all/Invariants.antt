@@ -1,7 +1,7 @@
 -- The tables of the changes so far can come into force, and stand before those of the others.
 use Rattle.std.proofs.Common.{◌≡◌, IfSome, take}
 use Rattle.snap_io.specs.Causes.{NoneFell}
-use Rattle.snap_move.specs.Changing.{HaveShapeOf}
+use Rattle.snap_runs.specs.Changing.{HaveShapeOf}
 use Rattle.snap_cli.specs.ChangesSteps.{afters, afters_of}
 use Rattle.snap_cli.proofs.ChangesLemmas.{Loaded}
 use Rattle.snap_cli.proofs.changes.load_all.Given as goal

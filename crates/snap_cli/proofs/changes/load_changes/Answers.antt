@@ -1,7 +1,7 @@
 use Rattle.std.proofs.Common.{◌≡◌, List, ap, subst, ◌∙◌, [], ◌∷◌, refl}
 use Rattle.std.proofs.lemmas.Result.{IfOk-weaker}
-use Rattle.snap_move.specs.declared.change.Change.{Change}
-use Rattle.snap_move.specs.Changing.{IsRising}
+use Rattle.snap_runs.specs.declared.change.Change.{Change}
+use Rattle.snap_runs.specs.Changing.{IsRising}
 use Rattle.snap_cli.specs.ChangesSteps.{LoadsLaters, afters, afters_of}
 use Rattle.snap_cli.proofs.ChangesLemmas.{loads-all, rising-changes}
 use Rattle.snap_cli.proofs.StatusLemmas.{refuses-more}

@@ -1,4 +1,4 @@
-use Rattle.snap_move.proofs.Lines.{said_changes_rise}
+use Rattle.snap_refinement.proofs.Lines.{said_changes_rise}
 use Rattle.snap_cli.proofs.ChangesLemmas.{reads-told}
 use Rattle.snap_cli.proofs.changes.read_lines.Goals as goal
 

@@ -8,8 +8,8 @@ use Rattle.snap_cli.proofs.EqualPrograms.{can_be_compared, difference_told, mean
 use Rattle.snap_cli.proofs.equal.judge_both.Goals as goal
 use Rattle.snap_cli.proofs.equal.judge_both.Goals.{After-items}
 
-calm : (c : After-items) → AreComparable c.args.left.now c.args.right.now
-calm c = record {
+race_free : (c : After-items) → AreComparable c.args.left.now c.args.right.now
+race_free c = record {
   declared = c.requires.alike;
   left = c.whole_programs_never_race.ensures c.args.left.now c.requires.first.0 c.args.first.now.nodes c.args.first.now.root c.requires.first.1;
   right = c.whole_programs_never_race.ensures c.args.right.now c.requires.second.0 c.args.second.now.nodes c.args.second.now.root c.requires.second.1;
@@ -22,11 +22,11 @@ compare-requires-clause-left c =
 pub compare-requires-clause-right : goal.compare-requires-clause-right
 compare-requires-clause-right c =
     can_be_compared c.args.right.now c.count-comps.result (length c.items.result.now) c.args.second.now.nodes c.args.second.now.root
-    (c.count-comps.ensures.count ∙ ap count c.requires.alike.fields) (ap length c.items.ensures ∙ ap length c.requires.alike.vars) c.requires.second
+    (c.count-comps.ensures.count ∙ ap count c.requires.alike.fields) (ap length c.items.ensures ∙ ap length c.requires.alike.arrays) c.requires.second
 
 pub returns-in-Ok-Same : goal.returns-in-Ok-Same
 returns-in-Ok-Same c = (
-  calm (goal.at.returns-in-Ok-Same c).After-items,
+  race_free (goal.at.returns-in-Ok-Same c).After-items,
   mean_same c.args.left.now c.args.right.now c.args.first.now.nodes c.args.second.now.nodes c.args.first.now.root c.args.second.now.root c.requires.alike c.requires.first c.requires.second
       c.count-comps.result c.count-comps.ensures.count
       (subst (IsCompared c.count-comps.result (length c.items.result.now) c.args.first.now.nodes c.args.first.now.root c.args.second.now.nodes c.args.second.now.root) c.in-Ok-Same.field-0-is c.in-Ok-Same.ensures),
@@ -39,4 +39,4 @@ differ-requires c =
     (subst (IsCompared c.count-comps.result (length c.items.result.now) c.args.first.now.nodes c.args.first.now.root c.args.second.now.nodes c.args.second.now.root) c.in-Ok-Differ.field-0-is c.in-Ok-Differ.ensures)
 
 pub returns-in-Ok-Differ : goal.returns-in-Ok-Differ
-returns-in-Ok-Differ c = difference_told c.args.left.now c.args.right.now (calm (goal.at.returns-in-Ok-Differ c).After-items) c.differ.result c.differ.ensures
+returns-in-Ok-Differ c = difference_told c.args.left.now c.args.right.now (race_free (goal.at.returns-in-Ok-Differ c).After-items) c.differ.result c.differ.ensures

@@ -45,5 +45,5 @@ module _ (one_ending : DeservesOneEnding) (one_text : DeservesOneText) where
 
 pub returns : goal.returns
 returns c = λ words files command status shelf_before shelf_now out_before out_now out_old out_new err_before err_now err_old err_new is a.
-    exactly c.deserves_once.ensures.ending c.deserves_once.ensures.text files words command status shelf_before shelf_now out_before out_now out_old out_new err_before err_now err_old err_new a
+    exactly c.answers_are_deterministic.ensures.ending c.answers_are_deterministic.ensures.text files words command status shelf_before shelf_now out_before out_now out_old out_new err_before err_now err_old err_new a
     (met files command a.ending out_old out_new (meets files words command a.ending out_old out_new is a.out))

@@ -1,7 +1,7 @@
 use Rattle.std.proofs.Common.{◌⊎◌, ℕ, Bool, List, Option, inl, inr}
 use Rattle.snap_core.specs.declared.program.Program.{Program}
 use Rattle.snap_io.specs.Files.{Files}
-use Rattle.snap_topo.specs.declared.topology.Topology.{Topology}
+use Rattle.snap_topology.specs.declared.topology.Topology.{Topology}
 use Rattle.snap_words.specs.Commands.{compile}
 use Rattle.snap_cli.specs.Compile.{AreSpelled}
 use Rattle.snap_cli.specs.Laws.{IsDue, IsExact, IsFailure, SpellsOneProgram}

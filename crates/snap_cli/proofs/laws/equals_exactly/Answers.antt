@@ -11,6 +11,6 @@ abbrev IsCompared : Program → Program → ℕ → Type 0
 IsCompared p q status = ((status ≡ 0) × MeanSame p q) ⊎ ((status ≡ 18) × Differs p q)
 
 pub returns : goal.returns
-returns c = λ words files left right p q status shelf_before shelf_now out_before out_now out_old out_new err_before err_now err_old err_new is l r calm a.
-    due-status (IsCompared p q) files (equal left right) (equal_status c.spells_one_program.ensures files left right p q l r calm) status out_old out_new err_before err_now err_old err_new
+returns c = λ words files left right p q status shelf_before shelf_now out_before out_now out_old out_new err_before err_now err_old err_new is l r race_free a.
+    due-status (IsCompared p q) files (equal left right) (equal_status c.spells_one_program.ensures files left right p q l r race_free) status out_old out_new err_before err_now err_old err_new
     (c.answers_exactly.ensures words files (equal left right) status shelf_before shelf_now out_before out_now out_old out_new err_before err_now err_old err_new is a)

@@ -4,5 +4,5 @@ use Rattle.snap_cli.proofs.laws.traces_exactly.Goals as goal
 
 pub returns : goal.returns
 returns c = λ words files tables packets hops t status shelf_before shelf_now out_before out_now out_old out_new err_before err_now err_old err_new is spelled a.
-    traces_exactly c.texts_are_read_one_way.ensures files tables packets hops t spelled status out_old out_new err_before err_now err_old err_new
+    traces_exactly c.reading_is_deterministic.ensures files tables packets hops t spelled status out_old out_new err_before err_now err_old err_new
     (c.answers_exactly.ensures words files (trace tables packets hops plain) status shelf_before shelf_now out_before out_now out_old out_new err_before err_now err_old err_new is a)

@@ -1,8 +1,8 @@
-use Rattle.snap_words.specs.Commands.{in_turn, trace}
+use Rattle.snap_words.specs.Commands.{in_order, trace}
 use Rattle.snap_cli.proofs.TraceOnce.{runs_exactly}
 use Rattle.snap_cli.proofs.laws.turns_exactly.Goals as goal
 
 pub returns : goal.returns
 returns c = λ words files tables packets lines hops t status shelf_before shelf_now out_before out_now out_old out_new err_before err_now err_old err_new is spelled a.
-    runs_exactly c.texts_are_read_one_way.ensures files tables packets hops t spelled status out_old out_new err_before err_now err_old err_new (in_turn lines)
-    (c.answers_exactly.ensures words files (trace tables packets hops (in_turn lines)) status shelf_before shelf_now out_before out_now out_old out_new err_before err_now err_old err_new is a)
+    runs_exactly c.reading_is_deterministic.ensures files tables packets hops t spelled status out_old out_new err_before err_now err_old err_new (in_order lines)
+    (c.answers_exactly.ensures words files (trace tables packets hops (in_order lines)) status shelf_before shelf_now out_before out_now out_old out_new err_before err_now err_old err_new is a)

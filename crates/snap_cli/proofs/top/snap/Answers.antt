@@ -11,7 +11,7 @@ returns-in-Err-clause-answer g c = record {
   status_is = c.status.ensures;
   out = c.in-Err.ensures.meets;
   causes = c.in-Err.ensures.devices.causes;
-  err = tells _ _ _ _ _ c.tell.result c.tell.ensures.ok c.tell.ensures.err c.tell.ensures.cause;
+  err = tells _ _ _ _ _ c.print.result c.print.ensures.ok c.print.ensures.err c.print.ensures.cause;
 }
 
 pub returns-in-Err-clause-read : goal.returns-in-Err-clause-read
@@ -34,7 +34,7 @@ returns-in-Err-clause-demo g c = λ switches is files. record {
   status_is = c.status.ensures;
   out = c.in-Err.ensures.demo switches is files;
   causes = c.in-Err.ensures.devices.causes;
-  err = tells _ _ _ _ _ c.tell.result c.tell.ensures.ok c.tell.ensures.err c.tell.ensures.cause;
+  err = tells _ _ _ _ _ c.print.result c.print.ensures.ok c.print.ensures.err c.print.ensures.cause;
 }
 
 pub returns-in-Err-clause-statuses : goal.returns-in-Err-clause-statuses

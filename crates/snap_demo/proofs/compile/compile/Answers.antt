@@ -1,15 +1,15 @@
 use Rattle.std.proofs.Common.{sym, subst}
 use Rattle.std.proofs.lemmas.Result.{IfOk-weaker}
-use Rattle.snap_gen.specs.Faithful.{Faithful}
-use Rattle.snap_place.specs.Answer.{GivesSwitches}
-use Rattle.snap_topo.specs.Form.{IsInForm}
+use Rattle.snap_faithful.specs.Faithful.{Faithful}
+use Rattle.snap_placement.specs.Answer.{GivesSwitches}
+use Rattle.snap_topology.specs.Form.{IsWellFormed}
 use Rattle.snap_demo.specs.Row.{stated_places, stated_topology}
 use Rattle.snap_demo.proofs.Placed.{places_fit}
-use Rattle.snap_demo.proofs.Row.{row_in_form}
+use Rattle.snap_demo.proofs.Row.{row_well_formed}
 use Rattle.snap_demo.proofs.compile.compile.Goals as goal
 
 pub tables-requires-clause-topology : goal.tables-requires-clause-topology
-tables-requires-clause-topology c = subst IsInForm (sym c.in_ok-topology.ensures) (row_in_form c.args.switches c.requires.some c.requires.few)
+tables-requires-clause-topology c = subst IsWellFormed (sym c.in_ok-topology.ensures) (row_well_formed c.args.switches c.requires.some c.requires.few)
 
 pub tables-requires-clause-placement : goal.tables-requires-clause-placement
 tables-requires-clause-placement c =

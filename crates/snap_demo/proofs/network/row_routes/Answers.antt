@@ -1,11 +1,11 @@
 use Rattle.std.proofs.Common.{sym, subst}
-use Rattle.snap_route.specs.Tables.{IsUnreachable}
-use Rattle.snap_topo.specs.Form.{IsInForm}
-use Rattle.snap_demo.proofs.Row.{row_in_form, row_is_joined}
+use Rattle.snap_topology.specs.Tables.{IsUnreachable}
+use Rattle.snap_topology.specs.Form.{IsWellFormed}
+use Rattle.snap_demo.proofs.Row.{row_well_formed, row_is_joined}
 use Rattle.snap_demo.proofs.network.row_routes.Goals as goal
 
 pub routes-requires : goal.routes-requires
-routes-requires c = subst IsInForm (sym c.requires.topology) (row_in_form c.args.count c.requires.some c.requires.few)
+routes-requires c = subst IsWellFormed (sym c.requires.topology) (row_well_formed c.args.count c.requires.some c.requires.few)
 
 pub unreachable-requires : goal.unreachable-requires
 unreachable-requires c =

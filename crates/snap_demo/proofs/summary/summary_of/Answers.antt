@@ -14,7 +14,7 @@ pub run-requires-clause-ports : goal.run-requires-clause-ports
 run-requires-clause-ports c = ap (λ (t : Tables). t.ports) c.in_ok-net.ensures.tables ∙ c.requires.faithful.shape.ports
 
 pub run-requires-clause-start : goal.run-requires-clause-start
-run-requires-clause-start c = subst (λ t. Rattle.snap_net.specs.Shown.Shows c.in_ok-net.net (Rattle.snap_rows.specs.Network.start t Rattle.snap_core.specs.Arrays.zero_arrays)) (sym c.in_ok-net.ensures.tables) c.in_ok-net.ensures.start
+run-requires-clause-start c = subst (λ t. Rattle.snap_net.specs.Shown.Represents c.in_ok-net.net (Rattle.snap_rows.specs.Network.start t Rattle.snap_core.specs.Arrays.zero_arrays)) (sym c.in_ok-net.ensures.tables) c.in_ok-net.ensures.start
 
 pub returns : goal.returns
 returns c =

@@ -6,6 +6,6 @@ use Rattle.snap_dep.proofs.calls.dependencies.Goals as goal
 pub pairs-requires-clause-within : goal.pairs-requires-clause-within
 pairs-requires-clause-within c = rw c.deref.ensures.value (λ s t r.
     let p = c.args.program.now.body in
-    let l = (depends_below (length c.args.program.now.vars) p (UsesBelow-fits (count c.args.program.now.fields) (length c.args.program.now.vars) p c.requires.fits) s t ((c.in_ok-rows.ensures.rows s t).0 r)).0 in
+    let l = (depends_below (length c.args.program.now.arrays) p (UsesBelow-fits (count c.args.program.now.fields) (length c.args.program.now.arrays) p c.requires.fits) s t ((c.in_ok-rows.ensures.rows s t).0 r)).0 in
     let long = c.in_ok-rows.ensures.count in
     omega (arith, l, long))

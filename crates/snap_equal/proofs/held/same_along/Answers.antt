@@ -29,22 +29,22 @@ loop-update-preserved c =
     let is = item at in
     elim c.match-same_at.branch [
       | in-Ok-true w ↦ rw w.open-is
-          (open_more_at c.args.ctx.now c.args.vars Update (λ e j. On c.args.ctx.now (λ m k. Agree at (get_or c.args.along.now j e) m k))
+          (open_more_at c.args.ctx.now c.args.arrays Update (λ e j. On c.args.ctx.now (λ m k. Agree at (get_or c.args.along.now j e) m k))
           c.loop-update.update-index c.loop-update.open c.loop-update.invariant
           (λ e m k i. subst (λ (u : Update). Agree at u m k) (is e) (λ chosen.
           told_true c.args.ctx.now (λ m k. updates m c.args.left.now k (place_at c.update-item.result.var c.update-item.result.index k) ≡ updates m c.args.right.now k (place_at c.update-item.result.var c.update-item.result.index k))
           w.in-Ok-true.field-0 w.in-Ok-true.field-0-test w.in-Ok-true.ensures m k i)))
-      | in-Err-Split w ↦ rw w.open-is (subst (IsStop c.args.ctx.now c.args.vars) w.in-Err-Split.field-0-is w.in-Err-Split.ensures)
+      | in-Err-Split w ↦ rw w.open-is (subst (IsStop c.args.ctx.now c.args.arrays) w.in-Err-Split.field-0-is w.in-Err-Split.ensures)
     ]
 
 pub loop-update-preserved-then-not-is_chosen : goal.loop-update-preserved-then-not-is_chosen
 loop-update-preserved-then-not-is_chosen c =
     let at = (goal.at.loop-update-preserved-then-not-is_chosen c).After-update-item in
-    open_more_at c.args.ctx.now c.args.vars Update (λ e j. On c.args.ctx.now (λ m k. Agree at (get_or c.args.along.now j e) m k))
+    open_more_at c.args.ctx.now c.args.arrays Update (λ e j. On c.args.ctx.now (λ m k. Agree at (get_or c.args.along.now j e) m k))
     c.loop-update.update-index c.loop-update.open c.loop-update.invariant
     (λ e m k i. subst (λ (u : Update). Agree at u m k) (item at e) (λ chosen. absurd (true≢false (sym chosen ∙ (sym c.is_chosen.ensures ∙ c.if-not-is_chosen.true)))))
 
 pub returns-in-None : goal.returns-in-None
 returns-in-None c = λ m k i j e l.
-    closed_all c.args.ctx.now c.args.vars ((e : Update) (j : ℕ) → j < c.loop-update.update-index → On c.args.ctx.now (λ m k. let u : Update = get_or c.args.along.now j e in is_chosen c.args.only u.var ≡ true → updates m c.args.left.now k (place_at u.var u.index k) ≡ updates m c.args.right.now k (place_at u.var u.index k)))
+    closed_all c.args.ctx.now c.args.arrays ((e : Update) (j : ℕ) → j < c.loop-update.update-index → On c.args.ctx.now (λ m k. let u : Update = get_or c.args.along.now j e in is_chosen c.args.only u.var ≡ true → updates m c.args.left.now k (place_at u.var u.index k) ≡ updates m c.args.right.now k (place_at u.var u.index k)))
     c.loop-update.open c.in-None.is c.loop-update.invariant e j (omega (arith, l, c.loop-update-test.false)) m k i

@@ -10,4 +10,4 @@ use Rattle.snap_equal.proofs.held.same_along.Given as goal
 
 abbrev pub invariant-loop-update : goal.invariant-loop-update
 invariant-loop-update l = MatchOption l.open ((e : Update) (j : ℕ) → j < l.update-index
-    → On l.ctx (λ m k. let u : Update = get_or l.along j e in is_chosen l.only u.var ≡ true → updates m l.left k (place_at u.var u.index k) ≡ updates m l.right k (place_at u.var u.index k))) (λ t. IsStop l.ctx l.vars (Split t))
+    → On l.ctx (λ m k. let u : Update = get_or l.along j e in is_chosen l.only u.var ≡ true → updates m l.left k (place_at u.var u.index k) ≡ updates m l.right k (place_at u.var u.index k))) (λ t. IsStop l.ctx l.arrays (Split t))

@@ -1,6 +1,6 @@
 -- One fact more.
 use Rattle.std.proofs.Common.{◌++◌, List, ap, sym, ◌∙◌, append_assoc}
-use Rattle.snap_ctx.specs.declared.fact.Fact.{Fact}
+use Rattle.snap_context.specs.declared.fact.Fact.{Fact}
 use Rattle.snap_equal.specs.Weaker.{fact_code, facts_code}
 use Rattle.snap_equal.proofs.keys.push_facts.Goals as goal
 

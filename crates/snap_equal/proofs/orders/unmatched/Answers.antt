@@ -21,7 +21,7 @@ loop-count-preserved c =
     record {
       few = (let few = c.loop-count.invariant.few in omega (arith, few));
       fits = subst (All P) (sym gone) (All-remove P us at c.loop-count.invariant.fits);
-      vars = λ v h. subst (AreOf v) (sym gone) (All-remove (λ (u : Update). u.var < v) us at (c.loop-count.invariant.vars v h));
+      arrays = λ v h. subst (AreOf v) (sym gone) (All-remove (λ (u : Update). u.var < v) us at (c.loop-count.invariant.arrays v h));
       rest = λ m k i.
           c.loop-count.invariant.rest m k i
           ∙ ap (λ n. updates (updates m us k) (drop n left) k) next

@@ -10,7 +10,7 @@ abbrev pub invariant-loop-count : goal.invariant-loop-count
 invariant-loop-count l = record {
   few : l.count ≤ length l.left;
   fits : All (IsUpdate (length l.ctx.classes)) l.rest.items;
-  vars : (vars : ℕ) → AreOf vars l.right → AreOf vars l.rest.items;
+  arrays : (arrays : ℕ) → AreOf arrays l.right → AreOf arrays l.rest.items;
   rest : On l.ctx (λ m k. updates m l.right k ≡ updates (updates m l.rest.items k) (drop l.count l.left) k);
 }
 

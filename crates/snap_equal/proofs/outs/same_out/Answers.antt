@@ -2,15 +2,15 @@
 use Rattle.std.proofs.Common.{◌≡◌, ◌<◌, ℕ, Bool, length, sym, subst, arith}
 use Rattle.snap_core.specs.declared.policy.Atom.TheVariants.{Comp}
 use Rattle.snap_core.specs.Arrays.{value_of}
-use Rattle.snap_chain.specs.Early.{atom_from}
-use Rattle.snap_equal.specs.Told.{IsStop, On, Tells}
+use Rattle.snap_compose.specs.PulledBack.{atom_from}
+use Rattle.snap_equal.specs.Told.{IsStop, On, Decides}
 use Rattle.snap_equal.proofs.Telling.{told_true, told_false, open_more, closed_all}
 use Rattle.snap_equal.proofs.Making.{same_after, component_after}
 use Rattle.snap_equal.proofs.outs.same_out.Goals as goal
 use Rattle.snap_equal.proofs.outs.same_out.Goals.{After-same_atoms, in-Ok-true, in-Err-Split}
 
-told : (c : After-same_atoms) (b : Bool) → Tells c.args.ctx.now (λ m k. value_of c.atom_in-first.result k ≡ value_of c.atom_in-second.result k) b
-    → Tells c.args.ctx.now (λ m k. value_of (atom_from (Comp c.loop-comp.comp) c.args.left.now c.loop-comp.comp) k ≡ value_of (atom_from (Comp c.loop-comp.comp) c.args.right.now c.loop-comp.comp) k) b
+told : (c : After-same_atoms) (b : Bool) → Decides c.args.ctx.now (λ m k. value_of c.atom_in-first.result k ≡ value_of c.atom_in-second.result k) b
+    → Decides c.args.ctx.now (λ m k. value_of (atom_from (Comp c.loop-comp.comp) c.args.left.now c.loop-comp.comp) k ≡ value_of (atom_from (Comp c.loop-comp.comp) c.args.right.now c.loop-comp.comp) k) b
 told c b h = rw (sym c.parts.ensures.list, sym c.parts-in-loop-comp.ensures.list, sym c.atom_in-first.ensures.atom, sym c.atom_in-second.ensures.atom) h
 
 pub returns-in-Ok-false : goal.returns-in-Ok-false

@@ -3,7 +3,7 @@ use Rattle.std.proofs.Common.{◌≡◌, ◌<◌, ℕ}
 use Rattle.std.specs.Prelude.{MatchOption}
 use Rattle.snap_core.specs.declared.policy.Atom.TheVariants.{Comp}
 use Rattle.snap_core.specs.Arrays.{value_of}
-use Rattle.snap_chain.specs.Early.{atom_from}
+use Rattle.snap_compose.specs.PulledBack.{atom_from}
 use Rattle.snap_equal.specs.declared.stop.Stop.TheVariants.{Split}
 use Rattle.snap_equal.specs.Told.{IsStop, On}
 use Rattle.snap_equal.proofs.outs.same_out.Given as goal

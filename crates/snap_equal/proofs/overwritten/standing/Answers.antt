@@ -22,8 +22,8 @@ loop-i-preserved c =
           let items = w.in_ok-push.ensures.items ∙ ap (λ (x : Update). kept ++ x ∷ []) w.in_ok-copy.ensures in
           rw w.kept-is (record {
             fits = subst (All P) (sym items) (All-push P kept u c.loop-i.invariant.fits (subst P (sym c.index-all-i.is) (c.requires c.loop-i.i u c.loop-i-test.true)));
-            vars = λ vs h. let Q : Update → Type 0 = λ x. x.var < vs in
-                subst (AreOf vs) (sym items) (All-push Q kept u (c.loop-i.invariant.vars vs h) (subst Q (sym c.index-all-i.is) (h c.loop-i.i u c.loop-i-test.true)));
+            arrays = λ vs h. let Q : Update → Type 0 = λ x. x.var < vs in
+                subst (AreOf vs) (sym items) (All-push Q kept u (c.loop-i.invariant.arrays vs h) (subst Q (sym c.index-all-i.is) (h c.loop-i.i u c.loop-i-test.true)));
             same = λ m k i.
                 ap (λ (us : List Update). updates m (us ++ drop (c.loop-i.i + 1) c.args.all.now) k) items
                 ∙ kept_more k m kept c.args.all.now c.loop-i.i u c.loop-i-test.true c.index-all-i.is
@@ -31,7 +31,7 @@ loop-i-preserved c =
           })
       | else-not-is_overwritten w ↦ rw w.kept-is (record {
         fits = c.loop-i.invariant.fits;
-        vars = c.loop-i.invariant.vars;
+        arrays = c.loop-i.invariant.arrays;
         same = λ m k i.
             kept_less k m kept c.args.all.now c.loop-i.i u c.loop-i-test.true c.index-all-i.is
             (λ n. subst (λ (us : List Update). updates (update n u k) us k ≡ updates n us k) whole (c.is_overwritten.ensures w.if-not-is_overwritten.false m k i n))

@@ -9,6 +9,6 @@ use Rattle.snap_equal.proofs.overwritten.standing.Given as goal
 abbrev pub invariant-loop-i : goal.invariant-loop-i
 invariant-loop-i l = record {
   fits : All (IsUpdate (length l.ctx.classes)) l.kept.items;
-  vars : (vars : ℕ) → AreOf vars l.all → AreOf vars l.kept.items;
+  arrays : (arrays : ℕ) → AreOf arrays l.all → AreOf arrays l.kept.items;
   same : On l.ctx (λ m k. updates m (l.kept.items ++ drop l.i l.all) k ≡ updates m l.all k);
 }

@@ -8,11 +8,11 @@ use Rattle.snap_core.specs.Arrays.{value_of}
 use Rattle.snap_core.specs.Fits.{AtomFits}
 use Rattle.snap_core.specs.Tests.{after_out, term_value}
 use Rattle.snap_core.specs.Terms.{term_code}
-use Rattle.snap_chain.specs.Early.{atom_from}
+use Rattle.snap_compose.specs.PulledBack.{atom_from}
 use Rattle.snap_equal.specs.Made.{packet_of}
 use Rattle.snap_equal.proofs.Making.{after_out-at}
 use Rattle.snap_equal.proofs.PacketCodes.{packet_of-more}
-use Rattle.snap_chain.proofs.Values.{after_out-length, term_of-value}
+use Rattle.snap_compose.proofs.Values.{after_out-length, term_of-value}
 use Rattle.snap_equal.proofs.spelling.spelling.Goals as goal
 
 pub loop-comp-preserved : goal.loop-comp-preserved

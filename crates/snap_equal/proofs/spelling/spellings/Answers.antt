@@ -3,7 +3,7 @@ use Rattle.std.proofs.Common.{◌≡◌, ℕ, [], List, get_or, sym, ap, ◌∙�
 use Rattle.std.proofs.lemmas.List.{get_or_default}
 use Rattle.snap_core.specs.declared.policy.Atom.{Atom}
 use Rattle.snap_core.specs.Tests.{after_out}
-use Rattle.snap_arena.proofs.Remembering.{remembers_more}
+use Rattle.snap_diagrams.proofs.Remembering.{remembers_more}
 use Rattle.snap_equal.specs.Made.{Makes, packet_of}
 use Rattle.snap_equal.specs.Told.{On}
 use Rattle.snap_equal.proofs.spelling.spellings.Goals as goal

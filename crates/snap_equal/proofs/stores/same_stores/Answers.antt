@@ -14,5 +14,5 @@ returns c =
     ap (λ (us : List Update). updates m us k) c.deref.ensures.value ∙ c.in_ok-first.ensures.same m k i in
     let right : On c.args.ctx.now (λ m k. updates m second k ≡ updates m c.args.right.now k) = λ m k i.
     ap (λ (us : List Update). updates m us k) c.deref-2.ensures.value ∙ c.in_ok-second.ensures.same m k i in
-    result_as c.args.ctx.now c.args.vars (λ m k. updates m first k ≡ updates m second k) (λ m k. updates m c.args.left.now k ≡ updates m c.args.right.now k)
+    result_as c.args.ctx.now c.args.arrays (λ m k. updates m first k ≡ updates m second k) (λ m k. updates m c.args.left.now k ≡ updates m c.args.right.now k)
     (λ m k i e. sym (left m k i) ∙ e ∙ right m k i) (λ m k i e. left m k i ∙ e ∙ sym (right m k i)) c.same_standing.result c.same_standing.ensures

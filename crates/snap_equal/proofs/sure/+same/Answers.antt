@@ -3,10 +3,10 @@ use Rattle.std.proofs.Common.{◌∷◌, arith, ℕ, List, length, sym, ap, ◌�
 use Rattle.std.specs.Prelude.{IfSome, OnOk}
 use Rattle.std.proofs.lemmas.Result.{IfOk-weaker}
 use Rattle.snap_core.specs.Arrays.{Arrays}
-use Rattle.snap_ctx.specs.declared.fact.Fact.{Fact}
-use Rattle.snap_ctx.specs.Answers.{IsAssumed}
-use Rattle.snap_arena.proofs.Remembering.{remembers_more}
-use Rattle.snap_fdd.specs.Diagrams.{diagram}
+use Rattle.snap_context.specs.declared.fact.Fact.{Fact}
+use Rattle.snap_context.specs.Answers.{IsAssumed}
+use Rattle.snap_diagrams.proofs.Remembering.{remembers_more}
+use Rattle.snap_diagrams.specs.Diagrams.{diagram}
 use Rattle.snap_equal.specs.declared.comparing.Compared.TheVariants.{Same}
 use Rattle.snap_equal.specs.Inputs.{IsComparable}
 use Rattle.snap_equal.specs.Leaves.{ArePairsKnown, ArePairsMet, AreRemembered, DiagramsDoSame, PairMet}
@@ -17,7 +17,7 @@ use Rattle.snap_equal.proofs.sure.+same.Goals as goal
 
 pub same_where-returns-in-Impossible : goal.same_where-returns-in-Impossible
 same_where-returns-in-Impossible t c = record {
-  same = λ e. nowhere c.args.ctx.now c.args.vars c.args.test.now c.args.yes (DiagramsDoSame (diagram c.args.left.now c.args.first) (diagram c.args.right.now c.args.second))
+  same = λ e. nowhere c.args.ctx.now c.args.arrays c.args.test.now c.args.yes (DiagramsDoSame (diagram c.args.left.now c.args.first) (diagram c.args.right.now c.args.second))
       (subst (IsAssumed c.args.ctx.now c.args.test.now c.args.yes) c.in-Impossible.is c.in_ok-assume.ensures);
   memos = c.requires.asked.memos;
 }
@@ -27,7 +27,7 @@ same_where-returns-in-More t c =
     let a = subst (IsAssumed c.args.ctx.now c.args.test.now c.args.yes) c.in-More.is c.in_ok-assume.ensures in
     let P : Arrays → List ℕ → Type 0 = DiagramsDoSame (diagram c.args.left.now c.args.first) (diagram c.args.right.now c.args.second) in
     record {
-      same = IfOk-weaker c.same.result _ _ (λ yes h e. under_more c.args.ctx.now c.args.vars c.args.test.now c.args.yes P c.in-More.more a Same (h e)) c.same.ensures.same;
+      same = IfOk-weaker c.same.result _ _ (λ yes h e. under_more c.args.ctx.now c.args.arrays c.args.test.now c.args.yes P c.in-More.more a Same (h e)) c.same.ensures.same;
       memos = subst (λ n. OnOk c.same.result (AreRemembered n c.args.left.now c.args.right.now c.same.new.memos)) a.1 c.same.ensures.memos;
     }
 
@@ -42,8 +42,8 @@ same-same_met-requires t c =
         comps = c.requires.comps ∙ sym is.same;
         first = c.requires.first;
         second = c.requires.second;
-        left = subst (λ n. IsComparable (record { comps = n; vars = c.args.vars }) (diagram c.args.left.now c.args.first)) (sym is.same) c.requires.left;
-        right = subst (λ n. IsComparable (record { comps = n; vars = c.args.vars }) (diagram c.args.right.now c.args.second)) (sym is.same) c.requires.right;
+        left = subst (λ n. IsComparable (record { comps = n; arrays = c.args.arrays }) (diagram c.args.left.now c.args.first)) (sym is.same) c.requires.left;
+        right = subst (λ n. IsComparable (record { comps = n; arrays = c.args.arrays }) (diagram c.args.right.now c.args.second)) (sym is.same) c.requires.right;
         memos = record {
           agreed = subst (λ n. ArePairsKnown n c.args.left.now c.args.right.now c.agree.new.known) (c.requires.comps ∙ sym is.same) c.in_ok-agree.ensures.known;
           met = subst (λ n. ArePairsMet n c.args.left.now c.args.right.now c.args.memos.now.met) (sym is.same) c.requires.memos.met;

@@ -4,8 +4,8 @@ use Rattle.std.proofs.lemmas.List.{get_or_default}
 use Rattle.snap_core.specs.declared.place.Place.{Place}
 use Rattle.snap_core.specs.declared.policy.Update.{Update}
 use Rattle.snap_core.specs.Arrays.{place_at, same_place}
-use Rattle.snap_ctx.specs.Classes.{wrap}
-use Rattle.snap_chain.specs.Additions.{added_up}
+use Rattle.snap_context.specs.Classes.{wrap}
+use Rattle.snap_compose.specs.Additions.{added_up}
 use Rattle.snap_equal.specs.Tally.{total}
 use Rattle.snap_equal.proofs.Adding.{total-push, total-set}
 use Rattle.snap_equal.proofs.tally.add.Goals as goal

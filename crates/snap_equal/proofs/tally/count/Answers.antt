@@ -5,13 +5,13 @@ use Rattle.std.proofs.lemmas.List.{take_all}
 use Rattle.snap_core.specs.declared.policy.Op.{Op}
 use Rattle.snap_core.specs.declared.policy.Update.{Update}
 use Rattle.snap_core.specs.Arrays.{has}
-use Rattle.snap_ctx.specs.Classes.{wrap}
-use Rattle.snap_ctx.proofs.Wrap.{wrap_assoc, wrap_zero}
+use Rattle.snap_context.specs.Classes.{wrap}
+use Rattle.snap_context.proofs.Wrap.{wrap_assoc, wrap_zero}
 use Rattle.snap_equal.specs.Tally.{share_of, signed, signed_total, total}
 use Rattle.snap_equal.proofs.Adding.{signed-none, signed_total-more, signed_total-same, share_none, share_other, total_small}
 use Rattle.snap_equal.proofs.tally.count.Goals as goal
 use Rattle.snap_equal.proofs.tally.count.Goals.{in-Add+in_ok-add-in-Add, in-Put}
-use Rattle.snap_chain.specs.Additions.{added}
+use Rattle.snap_compose.specs.Additions.{added}
 
 pub loop-update-init : goal.loop-update-init
 loop-update-init c = record {

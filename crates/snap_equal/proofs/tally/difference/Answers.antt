@@ -1,8 +1,8 @@
 -- What is added on the left, less what is on the right.
 use Rattle.std.proofs.Common.{ap, ◌∙◌}
 use Rattle.std.proofs.lemmas.Result.{IfOk-weaker}
-use Rattle.snap_ctx.specs.Classes.{wrap}
-use Rattle.snap_equal.specs.declared.tally.Sign.TheVariants.{Plus, Minus}
+use Rattle.snap_context.specs.Classes.{wrap}
+use Rattle.snap_equal.specs.declared.tally.Direction.TheVariants.{Plus, Minus}
 use Rattle.snap_equal.specs.Tally.{signed_total, total}
 use Rattle.snap_equal.proofs.Adding.{difference_of, signed_total-minus, signed_total-plus, total_small}
 use Rattle.snap_equal.proofs.tally.difference.Goals as goal

@@ -4,7 +4,7 @@ use Rattle.std.specs.Prelude.{All}
 use Rattle.std.proofs.lemmas.List.{take_all, take_more}
 use Rattle.std.proofs.lemmas.List.Elements.{All-push}
 use Rattle.snap_core.specs.declared.policy.Update.{Update}
-use Rattle.snap_ctx.specs.Classes.{wrap}
+use Rattle.snap_context.specs.Classes.{wrap}
 use Rattle.snap_equal.specs.Tally.{IsSum, total}
 use Rattle.snap_equal.proofs.Adding.{total-append, total-nothing}
 use Rattle.snap_equal.proofs.tally.nonzero.Goals as goal
@@ -19,8 +19,8 @@ loop-sum-preserved c =
       | then-not-is_nothing+in_ok-copy+in_ok-push w ↦
           let items = w.in_ok-push.ensures.items ∙ ap (λ (x : Update). c.loop-sum.kept.items ++ x ∷ []) w.in_ok-copy.ensures in
           rw w.kept-is (record {
-            kept = subst (All (IsSum c.args.mixed c.args.comps c.args.vars)) (sym items)
-                (All-push (IsSum c.args.mixed c.args.comps c.args.vars) c.loop-sum.kept.items u c.loop-sum.invariant.kept (subst (IsSum c.args.mixed c.args.comps c.args.vars) (sym c.sum-item.is) (c.requires c.loop-sum.sum-index u c.loop-sum-test.true)));
+            kept = subst (All (IsSum c.args.mixed c.args.comps c.args.arrays)) (sym items)
+                (All-push (IsSum c.args.mixed c.args.comps c.args.arrays) c.loop-sum.kept.items u c.loop-sum.invariant.kept (subst (IsSum c.args.mixed c.args.comps c.args.arrays) (sym c.sum-item.is) (c.requires c.loop-sum.sum-index u c.loop-sum-test.true)));
             total = λ k q.
                 ap (λ us. total us k q) items
                 ∙ total-append c.loop-sum.kept.items (u ∷ []) k q

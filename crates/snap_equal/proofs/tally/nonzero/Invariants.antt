@@ -7,6 +7,6 @@ use Rattle.snap_equal.proofs.tally.nonzero.Given as goal
 
 abbrev pub invariant-loop-sum : goal.invariant-loop-sum
 invariant-loop-sum l = record {
-  kept : All (IsSum l.mixed l.comps l.vars) l.kept.items;
+  kept : All (IsSum l.mixed l.comps l.arrays) l.kept.items;
   total : (k : List ℕ) (q : Place) → total l.kept.items k q ≡ total (take l.sum-index l.sums) k q;
 }

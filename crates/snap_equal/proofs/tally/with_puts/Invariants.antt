@@ -6,6 +6,6 @@ use Rattle.snap_equal.proofs.tally.with_puts.Given as goal
 
 abbrev pub invariant-loop-update : goal.invariant-loop-update
 invariant-loop-update l = record {
-  more : (v : ℕ) → has l.vars v ≡ false → has l.set v ≡ false;
-  puts : AddOutside l.vars (take l.update-index l.updates);
+  more : (v : ℕ) → has l.arrays v ≡ false → has l.set v ≡ false;
+  puts : AddOutside l.arrays (take l.update-index l.updates);
 }

@@ -2,8 +2,8 @@
 use Rattle.std.proofs.Common.{sym, ap, ◌∙◌}
 use Rattle.snap_core.specs.declared.policy.Term.{Term}
 use Rattle.snap_core.specs.Tests.{term_value}
-use Rattle.snap_ctx.specs.Classes.{wrap}
-use Rattle.snap_ctx.proofs.Algebra.{term_value-shift}
+use Rattle.snap_context.specs.Classes.{wrap}
+use Rattle.snap_context.proofs.Algebra.{term_value-shift}
 use Rattle.snap_equal.proofs.terms.read.Goals as goal
 
 pub returns-in-Plus-clause-value : goal.returns-in-Plus-clause-value

@@ -2,7 +2,7 @@
 use Rattle.std.proofs.Common.{ℕ, length, sym, ap, ◌∙◌}
 use Rattle.snap_core.specs.declared.policy.Term.{Term}
 use Rattle.snap_core.specs.Tests.{term_value}
-use Rattle.snap_chain.proofs.Values.{term_of-value}
+use Rattle.snap_compose.proofs.Values.{term_of-value}
 use Rattle.snap_equal.proofs.terms.reads_apart.Goals as goal
 
 pub returns : goal.returns

@@ -4,10 +4,10 @@ use Rattle.std.specs.Prelude.{IfSome}
 use Rattle.std.proofs.lemmas.List.Elements.{All-head, All-tail}
 use Rattle.snap_core.specs.Arrays.{Arrays}
 use Rattle.snap_core.specs.Tests.{passes}
-use Rattle.snap_ctx.specs.declared.context.Assumed.TheVariants.{More}
-use Rattle.snap_ctx.specs.declared.fact.Fact.{Fact}
-use Rattle.snap_ctx.specs.Answers.{IsAssumed}
-use Rattle.snap_ctx.specs.Meets.{Meets}
+use Rattle.snap_context.specs.declared.context.Assumed.TheVariants.{More}
+use Rattle.snap_context.specs.declared.fact.Fact.{Fact}
+use Rattle.snap_context.specs.Answers.{IsAssumed}
+use Rattle.snap_context.specs.Meets.{Meets}
 use Rattle.snap_equal.proofs.Alike.{weaker_more}
 use Rattle.snap_equal.proofs.weaker.weaker.Goals as goal
 

@@ -1,7 +1,7 @@
 -- What was kept so far, and what is left.
 use Rattle.std.specs.Prelude.{ℕ, List}
 use Rattle.snap_core.specs.Arrays.{Arrays}
-use Rattle.snap_ctx.specs.Meets.{Meets}
+use Rattle.snap_context.specs.Meets.{Meets}
 use Rattle.snap_equal.specs.Weaker.{IsWeaker}
 use Rattle.snap_equal.proofs.weaker.weaker.Given as goal
 

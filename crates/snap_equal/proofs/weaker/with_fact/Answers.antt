@@ -1,7 +1,7 @@
 -- A fact's test fits.
 use Rattle.std.proofs.Common.{length, sym, subst}
-use Rattle.snap_ctx.specs.Classes.{IsTest}
-use Rattle.snap_ctx.proofs.Roots.{index-short}
+use Rattle.snap_context.specs.Classes.{IsTest}
+use Rattle.snap_context.proofs.Roots.{index-short}
 use Rattle.snap_equal.proofs.Fitting.{test_fits}
 use Rattle.snap_equal.proofs.weaker.with_fact.Goals as goal
 

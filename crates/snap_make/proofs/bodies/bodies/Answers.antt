@@ -3,7 +3,7 @@ use Rattle.std.specs.Prelude.{unwrap_or}
 use Rattle.std.proofs.lemmas.List.FromFn.{map-range_with_len_more}
 use Rattle.std.proofs.lemmas.Option.{slice_get-get_or}
 use Rattle.snap_rows.specs.declared.tables.Row.TheVariants as row
-use Rattle.snap_gen.specs.Shown.{row_of}
+use Rattle.snap_faithful.specs.Shown.{row_of}
 use Rattle.snap_make.specs.Shares.{body_of}
 use Rattle.snap_make.proofs.Marking.{node_is}
 use Rattle.snap_make.proofs.bodies.bodies.Goals as goal

@@ -4,7 +4,7 @@ use Rattle.std.proofs.lemmas.Simd.{map-map}
 use Rattle.snap_rows.specs.Bodies.{IsPlaced, placed}
 use Rattle.snap_rows.specs.declared.tables.Row.{Row}
 use Rattle.snap_rows.specs.declared.tables.RowAt.{RowAt}
-use Rattle.snap_demand.specs.OnDemand.{place_of}
+use Rattle.snap_faithful.specs.OnDemand.{place_of}
 use Rattle.snap_make.specs.Demanded.{demanded, with_gone}
 use Rattle.snap_make.specs.Pairs.{at_switches, row_entry}
 use Rattle.snap_make.proofs.demanded.demanded_rows.Goals as goal

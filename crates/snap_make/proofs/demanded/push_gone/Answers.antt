@@ -1,6 +1,6 @@
 use Rattle.std.proofs.Common.{◌≡◌, ◌<◌, ◌∙◌, length, map, take, get_or, ap, arith}
 use Rattle.std.proofs.lemmas.List.{get_or_append_left}
-use Rattle.snap_demand.specs.OnDemand.{place_of}
+use Rattle.snap_faithful.specs.OnDemand.{place_of}
 use Rattle.snap_make.specs.Demanded.{gone}
 use Rattle.snap_make.proofs.Behind.{behind_more, all_behind}
 use Rattle.snap_make.proofs.demanded.push_gone.Goals as goal

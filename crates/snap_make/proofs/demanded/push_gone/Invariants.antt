@@ -1,6 +1,6 @@
 -- The bodies, and what stands elsewhere for the numbers so far.
 use Rattle.std.proofs.Common.{◌≡◌, ◌++◌, map, take}
-use Rattle.snap_demand.specs.OnDemand.{place_of}
+use Rattle.snap_faithful.specs.OnDemand.{place_of}
 use Rattle.snap_make.specs.Demanded.{gone}
 use Rattle.snap_make.proofs.demanded.push_gone.Given as goal
 

@@ -5,9 +5,9 @@ use Rattle.std.proofs.lemmas.Option.{get_or_from_slice_get, slice_get-get_or, sl
 use Rattle.snap_rows.specs.Bodies.{IsPlaced, placed}
 use Rattle.snap_rows.specs.declared.lists.Placed.{Placed}
 use Rattle.snap_rows.specs.declared.tables.Row.TheVariants as row
-use Rattle.snap_demand.specs.declared.switches.Switches.{Switches}
-use Rattle.snap_demand.specs.Marks.{has_switch}
-use Rattle.snap_demand.specs.OnDemand.{place_of}
+use Rattle.snap_make.specs.declared.switches.Switches.{Switches}
+use Rattle.snap_make.specs.Marks.{has_switch}
+use Rattle.snap_faithful.specs.OnDemand.{place_of}
 use Rattle.snap_make.specs.Demanded.{body_on, demanded, with_gone}
 use Rattle.snap_make.specs.Pairs.{at_switch, row_entry}
 use Rattle.snap_make.specs.Shares.{entries}

@@ -1,5 +1,5 @@
 use Rattle.std.proofs.Common.{length, refl}
-use Rattle.snap_demand.specs.OnDemand.{place_of}
+use Rattle.snap_faithful.specs.OnDemand.{place_of}
 use Rattle.snap_make.specs.Demanded.{demanded, with_gone}
 use Rattle.snap_make.specs.Shares.{entries}
 use Rattle.snap_make.proofs.Pushed.{at_switches_more}

@@ -2,7 +2,7 @@
 use Rattle.std.proofs.Common.{◌≡◌, length}
 use Rattle.std.specs.List.{All}
 use Rattle.snap_rows.specs.Bodies.{IsPlaced}
-use Rattle.snap_demand.specs.OnDemand.{place_of}
+use Rattle.snap_faithful.specs.OnDemand.{place_of}
 use Rattle.snap_make.specs.Demanded.{demanded, with_gone}
 use Rattle.snap_make.specs.Pairs.{at_switches}
 use Rattle.snap_make.specs.Shares.{entries}

@@ -1,6 +1,6 @@
 -- The bodies so far.
 use Rattle.std.proofs.Common.{◌≡◌, map, take}
-use Rattle.snap_demand.specs.OnDemand.{place_of, staged}
+use Rattle.snap_faithful.specs.OnDemand.{place_of, staged}
 use Rattle.snap_make.proofs.demanded.staged_all.Given as goal
 
 abbrev pub invariant-loop-node : goal.invariant-loop-node

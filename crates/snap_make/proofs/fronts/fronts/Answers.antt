@@ -1,5 +1,5 @@
 use Rattle.std.proofs.Common.{rules, ◌≡◌, length, slice_index, subst}
-use Rattle.snap_gen.specs.Generated.{numbered_nodes}
+use Rattle.snap_faithful.specs.Generated.{numbered_nodes}
 use Rattle.snap_make.specs.Fronts.{AreMarked}
 use Rattle.snap_make.proofs.fronts.fronts.Goals as goal
 

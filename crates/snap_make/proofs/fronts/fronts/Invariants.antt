@@ -1,6 +1,6 @@
 -- The marks of the numbers so far.
 use Rattle.std.proofs.Common.{length, slice_index}
-use Rattle.snap_gen.specs.Generated.{numbered_nodes}
+use Rattle.snap_faithful.specs.Generated.{numbered_nodes}
 use Rattle.snap_make.specs.Fronts.{AreMarked}
 use Rattle.snap_make.proofs.fronts.fronts.Given as goal
 

@@ -1,6 +1,6 @@
 use Rattle.std.proofs.Common.{rules, ◌≡◌, ◌+◌, Some, length, slice_get, slice_index, sym, subst, ap, ◌∙◌}
 use Rattle.std.proofs.lemmas.Option.{slice_get-get_or}
-use Rattle.snap_gen.specs.Generated.{numbered_nodes}
+use Rattle.snap_faithful.specs.Generated.{numbered_nodes}
 use Rattle.snap_make.specs.Fronts.{AreMarked}
 use Rattle.snap_make.proofs.Marking.{node_is, are_within, marked_on}
 use Rattle.snap_make.proofs.fronts.mark_number.Goals as goal

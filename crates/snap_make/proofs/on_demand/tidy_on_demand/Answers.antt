@@ -1,12 +1,12 @@
 use Rattle.std.proofs.Common.{◌≡◌, sym, subst}
 use Rattle.snap_rows.specs.declared.tables.Tables.{Tables}
-use Rattle.snap_gen.specs.Faithful.{Faithful}
+use Rattle.snap_faithful.specs.Faithful.{Faithful}
 use Rattle.snap_make.proofs.DemandMaking.{can_be_numbered, demanded_made, setting}
 use Rattle.snap_make.proofs.Given.{few_groups}
 use Rattle.snap_make.proofs.on_demand.tidy_on_demand.Goals as goal
 
-pub frame-requires-clause-few : goal.frame-requires-clause-few
-frame-requires-clause-few c = few_groups c.args.program.now c.args.groups.now c.requires.form c.requires.groups
+pub outline-requires-clause-few : goal.outline-requires-clause-few
+outline-requires-clause-few c = few_groups c.args.program.now c.args.groups.now c.requires.form c.requires.groups
 
 pub rows-requires-clause-setting : goal.rows-requires-clause-setting
 rows-requires-clause-setting c =

@@ -7,7 +7,7 @@ use Rattle.snap_rows.specs.Bodies.{IsPlaced, placed}
 use Rattle.snap_rows.specs.declared.lists.Placed.{Placed}
 use Rattle.snap_rows.specs.declared.tables.Row.{Row}
 use Rattle.snap_rows.specs.declared.tables.Row.TheVariants as row
-use Rattle.snap_gen.specs.Planned.{row_for}
+use Rattle.snap_faithful.specs.Planned.{row_for}
 use Rattle.snap_make.specs.Pairs.{at_switch, row_entry}
 use Rattle.snap_make.specs.Shares.{entries, shown, with_stop}
 use Rattle.snap_make.proofs.Behind.{twice, own_body, body_behind}

@@ -4,7 +4,7 @@ use Rattle.std.specs.List.{list_any}
 use Rattle.snap_core.specs.declared.ports.PortAt.{PortAt}
 use Rattle.snap_rows.specs.declared.tables.ArrayAt.{ArrayAt}
 use Rattle.snap_rows.specs.Entries.{ranks, ranks_in}
-use Rattle.snap_gen.specs.Planned.{has_port}
+use Rattle.snap_faithful.specs.Planned.{has_port}
 use Rattle.snap_make.specs.Sites.{is_visited, is_within}
 use Rattle.snap_make.proofs.sites.site_at.Goals as goal
 

@@ -15,7 +15,7 @@ shares-requires-clause-wide c =
 pub returns-clause-rows : goal.returns-clause-rows
 returns-clause-rows c =
     let bodies = c.args.bodies.now in
-    let t = c.args.frame.now in
+    let t = c.args.outline.now in
     IfOk-weaker c.shares.result _ _
     (λ r are. record {
       marks = c.in_ok-fronts.fronts.items;

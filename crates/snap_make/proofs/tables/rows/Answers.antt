@@ -14,7 +14,7 @@ returns-clause-rows c =
     let ids = c.in_ok-numbering.numbering.ids.items in
     let numbers = c.in_ok-numbering.numbering.numbers.items in
     let shares = c.in_ok-shares.shares.items in
-    let are = AreShares c.args.frame.now c.args.nodes.now ids numbers in
+    let are = AreShares c.args.outline.now c.args.nodes.now ids numbers in
     let same : map (placed (with_stop c.deref.result.now)) shares ≡ c.new.result =
     ap (λ (bs : List Row). map (placed bs) shares) (ap with_stop c.deref.ensures.value ∙ sym c.in_ok-push_stops.ensures) ∙ sym c.new.ensures in
     record {

@@ -1,12 +1,12 @@
 use Rattle.std.proofs.Common.{◌≡◌, sym, subst}
 use Rattle.snap_rows.specs.declared.tables.Tables.{Tables}
-use Rattle.snap_gen.specs.Faithful.{Faithful}
+use Rattle.snap_faithful.specs.Faithful.{Faithful}
 use Rattle.snap_make.proofs.Given.{few_groups}
 use Rattle.snap_make.proofs.Making.{rows_made}
 use Rattle.snap_make.proofs.tables.tidy_tables.Goals as goal
 
-pub frame-requires-clause-few : goal.frame-requires-clause-few
-frame-requires-clause-few c = few_groups c.args.program.now c.args.groups.now c.requires.form c.requires.groups
+pub outline-requires-clause-few : goal.outline-requires-clause-few
+outline-requires-clause-few c = few_groups c.args.program.now c.args.groups.now c.requires.form c.requires.groups
 
 pub new-requires : goal.new-requires
 new-requires c =

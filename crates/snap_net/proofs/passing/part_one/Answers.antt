@@ -9,7 +9,7 @@ go_out-requires-clause-port g c =
     let t = c.args.tables.now in
     let os = c.args.out.now ∷ [] in
     let k = c.args.packet.now in
-    let after = c.turn.new.packet in
+    let after = c.apply_out.new.packet in
     spread_sent_first t os k c.in-Some.port after (subst (λ o. IsSpread t os k (sent_to o after) (lost_to o)) c.in-Some.is c.in_ok-goes.ensures.turned)
 
 pub returns-in_ok-go_out-in-Some-clause-parts : goal.returns-in_ok-go_out-in-Some-clause-parts
@@ -17,7 +17,7 @@ returns-in_ok-go_out-in-Some-clause-parts g c =
     let t = c.args.tables.now in
     let os = c.args.out.now ∷ [] in
     let k = c.args.packet.now in
-    let after = c.turn.new.packet in
+    let after = c.apply_out.new.packet in
     let x : Sent = record { port = c.in-Some.port; packet = after } in
     record {
       copies = x ∷ [];
@@ -31,7 +31,7 @@ returns-in-None-clause-parts g c =
     let t = c.args.tables.now in
     let os = c.args.out.now ∷ [] in
     let k = c.args.packet.now in
-    let after = c.turn.new.packet in
+    let after = c.apply_out.new.packet in
     record {
       copies = [];
       spread = subst (λ o. IsSpread t os k (sent_to o after) (lost_to o)) c.in-None.is c.in_ok-goes.ensures.turned;

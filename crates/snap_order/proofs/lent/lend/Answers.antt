@@ -1,5 +1,5 @@
 use Rattle.std.proofs.Common.{◌≡◌, ℕ, get_or, length, sym, ap, subst, arith}
-use Rattle.snap_net.specs.Shown.{Held}
+use Rattle.snap_net.specs.Shown.{NetView}
 use Rattle.snap_order.specs.Dealing.{AreDealt, AreExchanged, ArePlaces}
 use Rattle.snap_order.proofs.lent.lend.Goals as goal
 
@@ -24,10 +24,10 @@ returns-in-Ok c =
     record {
       held = c.flying-known.ensures.is_held;
       ordered = c.flying-known.ensures.is_ordered;
-      tables = ap (λ (h : Held). h.tables) (sym e);
-      injected = ap (λ (h : Held). h.injected) (sym e);
+      tables = ap (λ (h : NetView). h.tables) (sym e);
+      injected = ap (λ (h : NetView). h.injected) (sym e);
       counts = sym k;
       jobs = jobs;
-      dealt = subst (λ (h : Held). AreDealt w (length h.stores) h.flying jobs) e (subst (λ (n : ℕ). AreDealt w n p.parts.flying.items jobs) many c.in-Ok.ensures);
-      lent = subst (λ (h : Held). AreExchanged w (length h.stores) h.stores jobs c.exchange.new.stores.items c.exchange.new.jobs.items) e c.exchange.ensures.exchanged;
+      dealt = subst (λ (h : NetView). AreDealt w (length h.stores) h.flying jobs) e (subst (λ (n : ℕ). AreDealt w n p.parts.flying.items jobs) many c.in-Ok.ensures);
+      lent = subst (λ (h : NetView). AreExchanged w (length h.stores) h.stores jobs c.exchange.new.stores.items c.exchange.new.jobs.items) e c.exchange.ensures.exchanged;
     }

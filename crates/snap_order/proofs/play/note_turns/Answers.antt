@@ -1,7 +1,7 @@
 use Rattle.std.proofs.Common.{◌≡◌, ◌+◌, [], ◌∷◌, length, sym, subst, rules, arith}
 use Rattle.std.specs.List.{All}
 use Rattle.std.proofs.lemmas.List.Elements.{All-head, All-tail}
-use Rattle.snap_order.specs.Playing.{OwnerIsBelow}
+use Rattle.snap_order.specs.Playing.{NumberIsBelow}
 use Rattle.snap_order.specs.Rounding.{AreThere, NoteTurns, no_notes, notes, width}
 use Rattle.snap_order.proofs.There.{there_low}
 use Rattle.snap_order.proofs.play.note_turns.Goals as goal
@@ -11,11 +11,11 @@ note_step-requires-clause-there c =
     let l = c.loop-moved in
     (subst (AreThere l.place c.args.net.now.flying) c.in-Some.ensures.items l.invariant.there).0
 
-pub note_step-requires-clause-owner : goal.note_step-requires-clause-owner
-note_step-requires-clause-owner c =
+pub note_step-requires-clause-number : goal.note_step-requires-clause-number
+note_step-requires-clause-number c =
     let l = c.loop-moved in
     let n = length l.tallies.items in
-    All-head (OwnerIsBelow n) c.in-Some.moved c.pop_front.new.self.items (subst (All (OwnerIsBelow n)) c.in-Some.ensures.items l.invariant.below)
+    All-head (NumberIsBelow n) c.in-Some.moved c.pop_front.new.self.items (subst (All (NumberIsBelow n)) c.in-Some.ensures.items l.invariant.below)
 
 pub overflow_add-place : goal.overflow_add-place
 overflow_add-place c =
@@ -40,7 +40,7 @@ loop-moved-preserved c =
     record {
       noted = λ end after. l.invariant.noted end (subst (λ xs. NoteTurns c.args.hops v.tables.switches v.flying l.place xs l.tallies.items end) (sym is)
           (notes first (subst (λ p. NoteTurns c.args.hops v.tables.switches v.flying p rest c.note_step.new.tallies.items end) (sym more) after)));
-      below = subst (λ n. All (OwnerIsBelow n) rest) (sym first.count) (All-tail (OwnerIsBelow (length l.tallies.items)) x rest (subst (All (OwnerIsBelow (length l.tallies.items))) is l.invariant.below));
+      below = subst (λ n. All (NumberIsBelow n) rest) (sym first.count) (All-tail (NumberIsBelow (length l.tallies.items)) x rest (subst (All (NumberIsBelow (length l.tallies.items))) is l.invariant.below));
       there = subst (λ p. AreThere p v.flying rest) more (subst (AreThere l.place v.flying) is l.invariant.there).1;
     }
 

@@ -1,6 +1,6 @@
 use Rattle.std.proofs.Common.{List, ℕ, [], ◌∷◌, ◌++◌, sym, ap, ◌∙◌}
 use Rattle.std.specs.Prelude.{slice_get}
-use Rattle.snap_net.specs.Shown.{Held}
+use Rattle.snap_net.specs.Shown.{NetView}
 use Rattle.snap_order.proofs.Sharing.{one_more_switch}
 use Rattle.snap_order.proofs.round.switches_of.Goals as goal
 
@@ -10,4 +10,4 @@ loop-k-preserved c =
     let k = c.loop-k.k in
     let x = c.copy.result.now in
     c.in_ok-push.ensures.items ∙ ap (λ (l : List ℕ). l ++ x.at ∷ []) c.loop-k.invariant
-    ∙ sym (one_more_switch cs k x (sym (ap (λ (v : Held). slice_get v.flying k) c.network.ensures) ∙ c.copy.ensures))
+    ∙ sym (one_more_switch cs k x (sym (ap (λ (v : NetView). slice_get v.flying k) c.network.ensures) ∙ c.copy.ensures))

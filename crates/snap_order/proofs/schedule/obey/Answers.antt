@@ -1,6 +1,6 @@
 use Rattle.std.proofs.Common.{◌≡◌, Some, rules}
 use Rattle.std.proofs.lemmas.Result.{IfOk-weaker}
-use Rattle.snap_runs.specs.declared.event.Order.TheVariants as order
+use Rattle.snap_runs.specs.declared.event.Instruction.TheVariants as order
 use Rattle.snap_runs.specs.Schedules.{order_by}
 use Rattle.snap_order.specs.Obeying.{HasDone}
 use Rattle.snap_order.specs.Playing.{HasInjected, HasStepped}

@@ -1,7 +1,7 @@
 use Rattle.std.proofs.Common.{◌≡◌, Err, IfSome, subst, sym}
 use Rattle.std.proofs.lemmas.Result.{err_from_is_err_and}
 use Rattle.snap_io.specs.Files.{file_of}
-use Rattle.snap_trace.proofs.StepLemmas.{where_both_told}
+use Rattle.snap_report.proofs.StepLemmas.{where_both_told}
 use Rattle.snap_runs.specs.Playing.{AreAll, packets_in}
 use Rattle.snap_runs.specs.Schedules.{lines_of}
 use Rattle.snap_order.specs.Obeying.{Stops}

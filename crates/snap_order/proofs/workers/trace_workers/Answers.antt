@@ -3,7 +3,7 @@ use Rattle.std.specs.Io.KnownBytes.{Appends}
 use Rattle.std.proofs.lemmas.Result.{err_from_is_err_and}
 use Rattle.snap_io.specs.Files.{file_of}
 use Rattle.snap_io.specs.Sinks.{AppendsPart}
-use Rattle.snap_trace.proofs.StepLemmas.{where_told}
+use Rattle.snap_report.proofs.StepLemmas.{where_told}
 use Rattle.snap_order.specs.Rounds.{WritesRounds}
 use Rattle.snap_order.proofs.RoundsWritten.{rounds_part, rounds_written}
 use Rattle.snap_order.proofs.workers.trace_workers.Goals as goal

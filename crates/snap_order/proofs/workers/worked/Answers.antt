@@ -2,7 +2,7 @@ use Rattle.std.proofs.Common.{Bool, List}
 use Rattle.std.proofs.lemmas.Result.{IfOk-weaker}
 use Rattle.snap_rows.specs.declared.tables.Tables.{Tables}
 use Rattle.snap_runs.specs.Playing.{packets_in}
-use Rattle.snap_order.specs.Ordered.{Ordered, Turn, happenings}
+use Rattle.snap_order.specs.Ordered.{Ordered, OrderedHappening, happenings}
 use Rattle.snap_order.specs.Playing.{Plays}
 use Rattle.snap_order.specs.Reports.{IsRunReport}
 use Rattle.snap_order.specs.Rounds.{IsRoundReport}
@@ -39,5 +39,5 @@ returns g c =
     let v = c.in_ok-ended.ended in
     let first = rounds_first t hops ks c.in_ok-play.play c.in_ok-play.ensures.plays c.in_ok-play.ensures.left in
     let p = c.in_ok-ended.ensures.ran t hops ks (c.in_ok-begun.ensures.ran t hops ks first) in
-    IfOk-weaker c.report.result (λ text. (t : Tables) (hops : Bool) (s : Ordered) (us : List Turn) → Plays t hops s us v → IsRunReport t hops s.net.injected s.net (happenings us) text.items) (λ text. IsRoundReport t hops ks text.items)
+    IfOk-weaker c.report.result (λ text. (t : Tables) (hops : Bool) (s : Ordered) (us : List OrderedHappening) → Plays t hops s us v → IsRunReport t hops s.net.injected s.net (happenings us) text.items) (λ text. IsRoundReport t hops ks text.items)
     (λ text told. round_report t hops ks v text.items p c.in_ok-ended.ensures.none c.in_ok-ended.ensures.rests (told t hops p.state p.turns p.plays)) c.report.ensures

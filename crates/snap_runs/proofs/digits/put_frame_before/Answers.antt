@@ -1,6 +1,6 @@
 use Rattle.std.proofs.Common.{◌≡◌, [], ◌++◌, drop, ap, ◌∙◌, arith, append-nil}
 use Rattle.std.proofs.lemmas.List.{drop_all}
-use Rattle.snap_head.specs.Frames.{head_bytes, packet_bytes}
+use Rattle.snap_net.specs.Frames.{head_bytes, packet_bytes}
 use Rattle.snap_runs.specs.Reports.{lead_of}
 use Rattle.snap_runs.proofs.digits.put_frame_before.Goals as goal
 

@@ -1,5 +1,5 @@
 use Rattle.std.proofs.Common.{◌≡◌, ◌+◌, ◌*◌, ◌++◌, drop, length}
-use Rattle.snap_head.specs.Frames.{packet_bytes}
+use Rattle.snap_net.specs.Frames.{packet_bytes}
 use Rattle.snap_runs.proofs.digits.put_packet_before.Given as goal
 
 -- the numbers from the last one on were put

@@ -14,9 +14,9 @@ returns-then-hops c =
     let y = c.index_mut-tally.result.now in
     let m = c.args.moved in
     let line = line_after c.args.frames c.args.net.now.tables.switches c.args.net.now.flying c.args.place m in
-    let within = subst (λ n. n < length ys) (sym c.owner_of-owner.ensures) c.requires.owner in
+    let within = subst (λ n. n < length ys) (sym c.number_of-number.ensures) c.requires.number in
     on_ok_all c.note_hop.result c.note_hop.ensures.delivered c.note_hop.ensures.lost c.note_hop.ensures.hops
-    (λ d l h. has-noted ys c.owner_of-owner.result y c.note_hop.new.self (if c.args.hops then line else []) m within c.index_mut-tally.ensures.value c.owner_of-owner.ensures d l
+    (λ d l h. has-noted ys c.number_of-number.result y c.note_hop.new.self (if c.args.hops then line else []) m within c.index_mut-tally.ensures.value c.number_of-number.ensures d l
     (h ∙ ap (λ b. y.hops.items ++ (if b then line else [])) (sym c.if-hops.true)))
 
 pub returns-else-hops : goal.returns-else-hops
@@ -25,7 +25,7 @@ returns-else-hops c =
     let y = c.index_mut-tally.result.now in
     let m = c.args.moved in
     let line = line_after c.args.frames c.args.net.now.tables.switches c.args.net.now.flying c.args.place m in
-    let within = subst (λ n. n < length ys) (sym c.owner_of-owner.ensures) c.requires.owner in
+    let within = subst (λ n. n < length ys) (sym c.number_of-number.ensures) c.requires.number in
     on_ok_all c.note.result c.note.ensures.delivered c.note.ensures.lost c.note.ensures.lost
-    (λ d l _. has-noted ys c.owner_of-owner.result y c.note.new.self (if c.args.hops then line else []) m within c.index_mut-tally.ensures.value c.owner_of-owner.ensures d l
+    (λ d l _. has-noted ys c.number_of-number.result y c.note.new.self (if c.args.hops then line else []) m within c.index_mut-tally.ensures.value c.number_of-number.ensures d l
     (c.note.ensures.hops ∙ sym (append-nil y.hops.items) ∙ ap (λ b. y.hops.items ++ (if b then line else [])) (sym c.if-hops.false)))

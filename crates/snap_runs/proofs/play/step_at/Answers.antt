@@ -2,8 +2,8 @@ use Rattle.std.proofs.Common.{length}
 use Rattle.snap_runs.proofs.Playing.{mover-below, mover-there, step-noted}
 use Rattle.snap_runs.proofs.play.step_at.Goals as goal
 
-pub note_step-requires-clause-owner : goal.note_step-requires-clause-owner
-note_step-requires-clause-owner c = mover-below c.args.place (length c.args.tallies.now.items) c.args.net.now c.advance.new.self c.requires.below c.in-Ok.moved c.in-Ok.ensures.done
+pub note_step-requires-clause-number : goal.note_step-requires-clause-number
+note_step-requires-clause-number c = mover-below c.args.place (length c.args.tallies.now.items) c.args.net.now c.advance.new.self c.requires.below c.in-Ok.moved c.in-Ok.ensures.done
 
 pub note_step-requires-clause-there : goal.note_step-requires-clause-there
 note_step-requires-clause-there c = mover-there c.args.place (length c.args.tallies.now.items) c.args.net.now c.advance.new.self c.requires.below c.in-Ok.moved c.in-Ok.ensures.done

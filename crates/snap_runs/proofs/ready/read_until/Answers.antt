@@ -5,12 +5,12 @@ use Rattle.snap_core.specs.Fields.{count}
 use Rattle.snap_io.specs.Files.{file_of}
 use Rattle.snap_io.specs.LineReaders.{lines_name}
 use Rattle.snap_rows.specs.declared.tables.Tables.{Tables}
-use Rattle.snap_trace.proofs.StepLemmas.{told-on, where_told}
+use Rattle.snap_report.proofs.StepLemmas.{told-on, where_told}
 use Rattle.snap_runs.specs.Plain.{at_ports}
 use Rattle.snap_runs.specs.Playing.{AreAll, HasRead, TakesLine}
-use Rattle.snap_trace.specs.declared.fault.TraceFault.TheVariants.{NoMemory, Packets}
-use Rattle.snap_trace.specs.PacketLines.{bad}
-use Rattle.snap_trace.specs.Reading.{FitsLine, GoesOn, HasLine, packet_in, said_of}
+use Rattle.snap_report.specs.declared.fault.TraceFault.TheVariants.{NoMemory, Packets}
+use Rattle.snap_report.specs.PacketLines.{bad}
+use Rattle.snap_report.specs.Reading.{FitsLine, GoesOn, HasLine, packet_in, said_of}
 use Rattle.snap_runs.specs.Reading.{GivesLine, left_of, said_at}
 use Rattle.snap_runs.proofs.Readers.{gives-at}
 use Rattle.snap_runs.proofs.ReadWhole.{AreRead, read-ended, read-more, read-refused, read-taken, ready-more, taken-few}

@@ -4,7 +4,7 @@ use Rattle.snap_core.specs.Fields.{count}
 use Rattle.snap_io.specs.Causes.{NoneFell}
 use Rattle.snap_io.specs.Files.{file_of}
 use Rattle.snap_io.specs.LineReaders.{AgreesWith, lines_name}
-use Rattle.snap_trace.specs.Reading.{packet_in}
+use Rattle.snap_report.specs.Reading.{packet_in}
 use Rattle.snap_runs.specs.Plain.{spelled_for}
 use Rattle.snap_runs.specs.Playing.{IsReady, packets_in}
 use Rattle.snap_runs.specs.Reading.{left_of, said_at}

@@ -1,6 +1,6 @@
 use Rattle.std.proofs.Common.{subst}
 use Rattle.snap_io.specs.Files.{file_of}
-use Rattle.snap_trace.proofs.StepLemmas.{where_told}
+use Rattle.snap_report.proofs.StepLemmas.{where_told}
 use Rattle.snap_runs.specs.Playing.{Reports, packets_in}
 use Rattle.snap_runs.specs.Schedules.{lines_of}
 use Rattle.snap_runs.proofs.Scheduled.{schedule-played}

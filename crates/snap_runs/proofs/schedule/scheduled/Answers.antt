@@ -2,7 +2,7 @@ use Rattle.std.proofs.Common.{Err, subst, sym}
 use Rattle.std.proofs.lemmas.Result.{err_from_is_err_and}
 use Rattle.snap_io.specs.Files.{file_of}
 use Rattle.snap_io.specs.Sinks.{AppendsPart}
-use Rattle.snap_trace.proofs.StepLemmas.{where_told}
+use Rattle.snap_report.proofs.StepLemmas.{where_told}
 use Rattle.snap_runs.specs.Schedules.{HasScheduleReport, RefusesScheduleLine, WritesSchedule}
 use Rattle.snap_runs.proofs.Scheduled.{schedule-refused}
 use Rattle.snap_runs.proofs.schedule.scheduled.Goals as goal

@@ -4,7 +4,7 @@ use Rattle.std.specs.List.{flat_map}
 use Rattle.std.proofs.lemmas.List.Folds.{flat_map-map}
 use Rattle.std.proofs.lemmas.Result.{on_ok_weaker}
 use Rattle.snap_core.specs.Listing.{entry_of}
-use Rattle.snap_trace.specs.Reports.{array_line, listed_line}
+use Rattle.snap_report.specs.Reports.{array_line, listed_line}
 use Rattle.snap_runs.specs.Reports.{names_of}
 use Rattle.snap_runs.proofs.tail.put_end.Goals as goal
 

@@ -1,6 +1,6 @@
 use Rattle.std.proofs.Common.{◌≡◌, ◌++◌, take}
 use Rattle.std.specs.List.{flat_map}
-use Rattle.snap_trace.specs.Reports.{listed_line}
+use Rattle.snap_report.specs.Reports.{listed_line}
 use Rattle.snap_runs.specs.Reports.{names_of}
 use Rattle.snap_runs.proofs.tail.put_entries.Given as goal
 

@@ -1,6 +1,6 @@
 use Rattle.std.proofs.Common.{◌≡◌, ◌++◌, take}
 use Rattle.std.specs.List.{flat_map}
-use Rattle.snap_trace.specs.Reports.{out_line}
+use Rattle.snap_report.specs.Reports.{out_line}
 use Rattle.snap_runs.proofs.tally.put_outs.Given as goal
 
 abbrev pub invariant-loop-packet : goal.invariant-loop-packet

@@ -1,5 +1,5 @@
 use Rattle.std.proofs.Common.{subst, sym, ◌∙◌, arith}
-use Rattle.snap_rows.specs.Form.{IsInForm}
+use Rattle.snap_rows.specs.Form.{IsWellFormed}
 use Rattle.snap_rows.specs.Rules.{IsFirstBroken, IsValid}
 use Rattle.snap_tables.specs.Drafts.{tables_of}
 use Rattle.snap_tables.proofs.ReadLemmas.{place-small, read-breaks, read-form, read-valid}
@@ -9,7 +9,7 @@ pub tables-requires : goal.tables-requires
 tables-requires c = (read-form c.args.text.now c.in_ok-draft.draft c.in_ok-draft.ensures.ok).fields
 
 pub valid-requires : goal.valid-requires
-valid-requires c = subst IsInForm (sym c.in_ok-tables.ensures) (read-form c.args.text.now c.in_ok-draft.draft c.in_ok-draft.ensures.ok)
+valid-requires c = subst IsWellFormed (sym c.in_ok-tables.ensures) (read-form c.args.text.now c.in_ok-draft.draft c.in_ok-draft.ensures.ok)
 
 pub line_of-requires : goal.line_of-requires
 line_of-requires c =

@@ -2,7 +2,7 @@ use Rattle.std.proofs.Common.{◌∙◌, sym}
 use Rattle.std.proofs.lemmas.Result.{err_from_is_err_and}
 use Rattle.clap.specs.Words.{found_of}
 use Rattle.snap_words.specs.Said.{lent, said}
-use Rattle.snap_words.specs.Words.{Told}
+use Rattle.snap_words.specs.Words.{ArgumentsView}
 use Rattle.snap_words.proofs.ClapTold.{Tells, checked-true, clap_err, told_from}
 use Rattle.snap_words.proofs.told.read.Goals as goal
 use Rattle.snap_words.proofs.Checked.{checked_bad}
@@ -14,7 +14,7 @@ returns-in_err-matches-clause-usage c =
 
 pub returns-then-has_names-clause-ok : goal.returns-then-has_names-clause-ok
 returns-then-has_names-clause-ok c =
-    let t : Told = said (record { hops = c.get_flag.result; ordered = c.get_flag-2.result; on_demand = c.get_flag-3.result; schedule = c.get_str.result; changes = c.get_str-2.result; workers = c.get_str-3.result; names = c.in_ok-names_in.field-0 }) in
+    let t : ArgumentsView = said (record { hops = c.get_flag.result; ordered = c.get_flag-2.result; on_demand = c.get_flag-3.result; schedule = c.get_str.result; changes = c.get_str-2.result; workers = c.get_str-3.result; names = c.in_ok-names_in.field-0 }) in
     let tells : Tells (found_of c.in_ok-matches.matches) t = record {
       hops = (c.get_flag.ensures.value, c.get_flag.ensures.other);
       ordered = (c.get_flag-2.ensures.value, c.get_flag-2.ensures.other);
@@ -29,7 +29,7 @@ returns-then-has_names-clause-ok c =
 
 pub returns-clause-usage : goal.returns-clause-usage
 returns-clause-usage c = λ usage.
-    let t : Told = said (record { hops = c.get_flag.result; ordered = c.get_flag-2.result; on_demand = c.get_flag-3.result; schedule = c.get_str.result; changes = c.get_str-2.result; workers = c.get_str-3.result; names = c.in_ok-names_in.field-0 }) in
+    let t : ArgumentsView = said (record { hops = c.get_flag.result; ordered = c.get_flag-2.result; on_demand = c.get_flag-3.result; schedule = c.get_str.result; changes = c.get_str-2.result; workers = c.get_str-3.result; names = c.in_ok-names_in.field-0 }) in
     let tells : Tells (found_of c.in_ok-matches.matches) t = record {
       hops = (c.get_flag.ensures.value, c.get_flag.ensures.other);
       ordered = (c.get_flag-2.ensures.value, c.get_flag-2.ensures.other);

@@ -3,7 +3,7 @@ use Rattle.std.specs.Prelude.{nat_eq}
 use Rattle.std.specs.List.{IsDistinct}
 use Rattle.std.specs.Map.{keys_of}
 use Rattle.snap_core.specs.Cells.{arrays_of, overlaid, changed_at, room_at}
-use Rattle.snap_core.proofs.CellMerge.{IsDistinct-vars, overlaid-step, room-step}
+use Rattle.snap_core.proofs.CellMerge.{IsDistinct-arrays, overlaid-step, room-step}
 use Rattle.snap_core.proofs.store.Store.apply_changes.Goals as goal
 
 pub loop-var-init : goal.loop-var-init
@@ -11,7 +11,7 @@ loop-var-init c =
     let same = c.into_iter-var-iterator.ensures.into_iter_gives.0 in
     let all = same ∙ c.into_patches-var-items.ensures in
     record {
-      distinct = subst (λ l. IsDistinct nat_eq (keys_of l)) (sym same) (IsDistinct-vars c.into_patches-var-items.result.entries c.into_iter-var-iterator.ensures.into_iter_gives.5);
+      distinct = subst (λ l. IsDistinct nat_eq (keys_of l)) (sym same) (IsDistinct-arrays c.into_patches-var-items.result.entries c.into_iter-var-iterator.ensures.into_iter_gives.5);
       room = λ s. subst (λ l. length (changed_at l s) ≤ room_at c.make_room.new.self s) (sym all) (c.in_ok-make_room.ensures.room s);
       arrays = λ p. (λ i. overlaid (c.make_room.ensures.same i) (all i) p);
     }

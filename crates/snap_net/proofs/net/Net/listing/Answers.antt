@@ -6,7 +6,7 @@ use Rattle.snap_core.specs.Listing.{IsArrayListing, IsListing, entry_of}
 use Rattle.snap_core.proofs.ArrayListings.{AreBelow, below, below-none, listing_more, listing_none}
 use Rattle.snap_rows.specs.Entries.{owner_of}
 use Rattle.snap_rows.specs.Form.{array_count}
-use Rattle.snap_net.specs.Shown.{Held, gathered, store_of}
+use Rattle.snap_net.specs.Shown.{NetView, gathered, store_of}
 use Rattle.snap_net.proofs.Gathering.{gathered-all, gathered-more, gathered-whole}
 use Rattle.snap_net.proofs.net.Net.listing.Goals as goal
 
@@ -20,8 +20,8 @@ loop-var-preserved c =
     let v = c.args.self.now in let m = gathered v.tables v.stores in
     let n = c.loop-var.var in let w = c.owner_of-at.result in let stores = c.self.inside.stores.items in
     let within : w < length stores = omega (arith, c.self.invariant.stores, c.owner_of-at.ensures.below) in
-    let store : c.index.result.now ≡ get_or v.stores w [] = c.index.ensures ∙ get_or_default stores w _ [] within ∙ ap (λ (o : Held). get_or o.stores w []) c.self.view_is in
-    let owner = ap (λ (o : Held). owner_of o.tables n) (sym c.self.view_is) ∙ c.owner_of-at.ensures.owner in
+    let store : c.index.result.now ≡ get_or v.stores w [] = c.index.ensures ∙ get_or_default stores w _ [] within ∙ ap (λ (o : NetView). get_or o.stores w []) c.self.view_is in
+    let owner = ap (λ (o : NetView). owner_of o.tables n) (sym c.self.view_is) ∙ c.owner_of-at.ensures.owner in
     let lists = c.in_ok-list_array.ensures in
     subst (AreBelow (n + 1) (below (n + 1) m)) (sym lists.1)
     (listing_more n (below n m) (store_of v.stores w) (below (n + 1) m) (map entry_of c.loop-var.all.items) lists.0 c.loop-var.invariant

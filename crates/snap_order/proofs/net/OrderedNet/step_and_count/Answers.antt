@@ -4,9 +4,9 @@ use Rattle.snap_rows.specs.declared.tables.Tables.{Tables}
 use Rattle.snap_rows.specs.Entries.{ranks}
 use Rattle.snap_rows.specs.Network.{Step}
 use Rattle.snap_net.specs.Moves.{StepsAt}
-use Rattle.snap_order.specs.Shown.{IsDoneInTurn, OrderedHeld, TellsTurn}
+use Rattle.snap_order.specs.Shown.{SimulatesInOrder, OrderedNetView, TellsTurn}
 use Rattle.snap_order.specs.Turning.{HasCounted, behind_after, first_of}
-use Rattle.snap_order.proofs.Stepped.{counted_order, done_in_turn, in_turn, moved_stands}
+use Rattle.snap_order.proofs.Stepped.{counted_order, done_in_order, in_order, moved_stands}
 use Rattle.snap_order.proofs.net.OrderedNet.step_and_count.Goals as goal
 
 pub rank_behind-behind-requires : goal.rank_behind-behind-requires
@@ -14,11 +14,11 @@ rank_behind-behind-requires c =
     let v = c.self.inside.net in
     let new = c.step_admitted.new.self in
     let x = c.copy-copy.result.now in
-    moved_stands v.tables (in_turn c.deref.result.now x.number) c.args.k v.stores v.flying new.stores new.flying x c.in_ok-told.told.moved c.copy-copy.ensures (c.in_ok-told.ensures.stepped x c.copy-copy.ensures)
+    moved_stands v.tables (in_order c.deref.result.now x.number) c.args.k v.stores v.flying new.stores new.flying x c.in_ok-told.told.moved c.copy-copy.ensures (c.in_ok-told.ensures.stepped x c.copy-copy.ensures)
 
 pub count-requires-clause-order : goal.count-requires-clause-order
 count-requires-clause-order c =
-    let v : OrderedHeld = record { net = c.self.inside.net; counts = c.self.inside.counts.items } in
+    let v : OrderedNetView = record { net = c.self.inside.net; counts = c.self.inside.counts.items } in
     let x = c.copy-copy.result.now in
     let first = c.first_rank-first.ensures ∙ ap (λ (t : Tables). first_of t x.head) c.tables.ensures.tables in
     (counted_order v c.step_admitted.new.self c.args.k x c.in_ok-told.told.moved c.deref.result.now c.first_rank-first.result c.rank_behind-behind.result c.tables-known.ensures.held c.self.invariant.version c.copy-copy.ensures c.deref.ensures.value c.in_ok-told.ensures.stepped
@@ -26,7 +26,7 @@ count-requires-clause-order c =
 
 pub count-requires-clause-within : goal.count-requires-clause-within
 count-requires-clause-within c =
-    let v : OrderedHeld = record { net = c.self.inside.net; counts = c.self.inside.counts.items } in
+    let v : OrderedNetView = record { net = c.self.inside.net; counts = c.self.inside.counts.items } in
     let x = c.copy-copy.result.now in
     let first = c.first_rank-first.ensures ∙ ap (λ (t : Tables). first_of t x.head) c.tables.ensures.tables in
     let high = (counted_order v c.step_admitted.new.self c.args.k x c.in_ok-told.told.moved c.deref.result.now c.first_rank-first.result c.rank_behind-behind.result c.tables-known.ensures.held c.self.invariant.version c.copy-copy.ensures c.deref.ensures.value c.in_ok-told.ensures.stepped
@@ -42,8 +42,8 @@ invariant_of-self-2 c = record {
 
 pub returns-clause-done : goal.returns-clause-done
 returns-clause-done c =
-    let v : OrderedHeld = record { net = c.self.inside.net; counts = c.self.inside.counts.items } in
-    let new : OrderedHeld = record { net = c.step_admitted.new.self; counts = c.count.new.counts.items } in
+    let v : OrderedNetView = record { net = c.self.inside.net; counts = c.self.inside.counts.items } in
+    let new : OrderedNetView = record { net = c.step_admitted.new.self; counts = c.count.new.counts.items } in
     let k = c.args.k in
     let x = c.copy-copy.result.now in
     let m = c.in_ok-told.told.moved in
@@ -53,6 +53,6 @@ returns-clause-done c =
     let behind : c.rank_behind-behind.result ≡ behind_after v.net.tables (first_of v.net.tables x.head) new.net.flying k m = c.rank_behind-behind.ensures ∙ (λ i. behind_after (c.step_admitted.ensures.tables i) (first i) new.net.flying k m) in
     let counted = subst (λ r. HasCounted v.counts r (behind_after v.net.tables (first_of v.net.tables x.head) new.net.flying k m) (x.number + 1) new.counts) first
     (subst (λ e. HasCounted v.counts c.first_rank-first.result e (x.number + 1) new.counts) behind (subst (λ n. HasCounted v.counts c.first_rank-first.result c.rank_behind-behind.result n new.counts) next c.count.ensures)) in
-    let made = subst (λ l. StepsAt (in_turn l x.number) v.net k new.net m) c.deref.ensures.value c.in_ok-told.ensures.stepped in
-    subst (λ (o : OrderedHeld). IsDoneInTurn o (Step k) new (TellsTurn m)) c.self.view_is
-    (done_in_turn v new k (record { form = held.form; valid = held.valid; version = c.self.invariant.version }) c.step_admitted.ensures.tables c.step_admitted.ensures.injected x m c.copy-copy.ensures made counted)
+    let made = subst (λ l. StepsAt (in_order l x.number) v.net k new.net m) c.deref.ensures.value c.in_ok-told.ensures.stepped in
+    subst (λ (o : OrderedNetView). SimulatesInOrder o (Step k) new (TellsTurn m)) c.self.view_is
+    (done_in_order v new k (record { form = held.form; valid = held.valid; version = c.self.invariant.version }) c.step_admitted.ensures.tables c.step_admitted.ensures.injected x m c.copy-copy.ensures made counted)

@@ -1,7 +1,7 @@
 use Rattle.std.proofs.Common.{◌≡◌, [], map, drop, append-nil, ap, sym, subst}
 use Rattle.std.proofs.lemmas.List.{drop_all}
 use Rattle.snap_rows.specs.declared.tables.Stage.{Stage}
-use Rattle.snap_rows.specs.Form.{IsTurnInForm}
+use Rattle.snap_rows.specs.Form.{IsLeafStageWellFormed}
 use Rattle.snap_rows.specs.Ways.{Route, end}
 use Rattle.snap_rows.proofs.Leading.{next_stage}
 use Rattle.snap_rows.proofs.Rows.{All-get}
@@ -16,7 +16,7 @@ loop-stage-preserved c =
     let s = c.stage-item.result in
     let way = c.in_ok-add_way.ensures in
     record {
-      low = (All-get (IsTurnInForm t) ss i s c.requires.stages (found ss i s c.stage-item.is c.loop-stage-test.true)).at;
+      low = (All-get (IsLeafStageWellFormed t) ss i s c.requires.stages (found ss i s c.stage-item.is c.loop-stage-test.true)).at;
       goes = next_stage t c.args.at c.loop-stage.here s ss i c.loop-stage.way.items way.0 c.add_way.new.way.items c.loop-stage-test.true c.stage-item.is way.1 way.2 c.loop-stage.invariant.goes;
     }
 

@@ -4,7 +4,7 @@ use Rattle.std.proofs.lemmas.List.Elements.{All-cons, All-nil}
 use Rattle.std.proofs.lemmas.List.Sorted.{IsPermutation-refl}
 use Rattle.std.proofs.lemmas.Result.{on_ok_weaker}
 use Rattle.snap_core.specs.Fields.{count}
-use Rattle.snap_trace.specs.Reports.{out_lines, lost_line}
+use Rattle.snap_report.specs.Reports.{out_lines, lost_line}
 use Rattle.snap_runs.specs.Reports.{packet_line}
 use Rattle.snap_runs.proofs.tally.Tally.put_alone.Goals as goal
 

@@ -2,7 +2,7 @@ use Rattle.std.proofs.Common.{List, ℕ, ◌≡◌, ◌++◌, length, sym, subst
 use Rattle.std.specs.List.{All}
 use Rattle.std.proofs.lemmas.List.Sorted.{All-permutation, IsPermutation-sym}
 use Rattle.snap_core.specs.Fields.{count}
-use Rattle.snap_trace.specs.Reports.{out_lines, lost_line}
+use Rattle.snap_report.specs.Reports.{out_lines, lost_line}
 use Rattle.snap_runs.specs.Reports.{packet_line}
 use Rattle.snap_runs.proofs.tally.Tally.put_block.Goals as goal
 

@@ -1,4 +1,0 @@
-pub mod Injective
-pub mod Numbered
-pub mod Paired
-pub mod Remembering

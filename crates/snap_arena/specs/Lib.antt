@@ -1,3 +1,0 @@
-pub mod Arena
-pub mod Codes
-pub mod Memos

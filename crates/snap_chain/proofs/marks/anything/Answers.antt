@@ -1,6 +1,0 @@
--- Each set of 64 bits has all numbers below 64.
-use Rattle.snap_chain.proofs.Marked.{in_everything}
-use Rattle.snap_chain.proofs.marks.anything.Goals as goal
-
-pub returns : goal.returns
-returns c = in_everything

@@ -1,8 +1,0 @@
--- The components so far.
-use Rattle.std.proofs.Common.{take}
-use Rattle.std.specs.List.{All}
-use Rattle.snap_chain.specs.Marks.{SetsAmong}
-use Rattle.snap_chain.proofs.marks.set_by_all.Given as goal
-
-abbrev pub invariant-loop-out : goal.invariant-loop-out
-invariant-loop-out l = All (SetsAmong l.set) (take l.out-index l.outs)

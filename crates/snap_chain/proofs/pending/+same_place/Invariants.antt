@@ -1,6 +1,0 @@
--- One atom less.
-use Rattle.std.proofs.Common.{length}
-use Rattle.snap_chain.proofs.pending.+same_place.Given as goal
-
-abbrev pub decreases-same_place : goal.decreases-same_place
-decreases-same_place l = length l.left.now

@@ -1,0 +1,7 @@
+-- Equal parts, one by one.
+use Rattle.std.proofs.Common.{rules}
+use Rattle.std.proofs.lemmas.Slice.Eq.{slice_eq-Decides}
+use Rattle.snap_compose.proofs.uniting.same_parts.Goals as goal
+
+pub returns : goal.returns
+returns c = slice_eq-Decides (λ a b. search rules) c.args.a.now c.args.b.now c.eq.result c.eq.ensures

@@ -1,0 +1,8 @@
+-- The rest decides.
+use Rattle.std.proofs.Common.{◌≡◌, drop, map}
+use Rattle.snap_context.specs.Classes.{atom_class}
+use Rattle.snap_context.specs.Known.{are_numbers}
+use Rattle.snap_context.proofs.rooted.index_plain.Given as goal
+
+abbrev pub invariant-loop-atom : goal.invariant-loop-atom
+invariant-loop-atom l = are_numbers (map (atom_class l.classes) (drop l.atom-index l.index)) ≡ are_numbers (map (atom_class l.classes) l.index)

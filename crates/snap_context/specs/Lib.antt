@@ -1,0 +1,11 @@
+pub mod Answers
+pub mod Classes
+pub mod Closing
+pub mod Facts
+pub mod Known
+pub mod Lean
+pub mod Meets
+pub mod Tested
+pub mod View
+pub mod Asks
+pub mod Models

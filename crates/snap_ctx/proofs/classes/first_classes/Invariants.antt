@@ -1,6 +1,0 @@
--- The classes so far are their own roots.
-use Rattle.snap_ctx.specs.View.{AreFirst}
-use Rattle.snap_ctx.proofs.classes.first_classes.Given as goal
-
-abbrev pub invariant-loop-comp : goal.invariant-loop-comp
-invariant-loop-comp l = AreFirst l.comp l.classes.items

@@ -1,6 +1,0 @@
--- The law, from the lemma.
-use Rattle.snap_ctx.proofs.Model.{model}
-use Rattle.snap_ctx.proofs.laws.kept_rules_have_a_model.Goals as goal
-
-pub returns : goal.returns
-returns c = model

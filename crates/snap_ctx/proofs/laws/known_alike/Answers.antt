@@ -1,6 +1,0 @@
--- The law on keys.
-use Rattle.snap_ctx.proofs.Knowing.{known_alike as law}
-use Rattle.snap_ctx.proofs.laws.known_alike.Goals as goal
-
-pub returns : goal.returns
-returns c = law

@@ -1,6 +1,0 @@
--- The law, from the lemma.
-use Rattle.snap_ctx.proofs.Lean.{refilled}
-use Rattle.snap_ctx.proofs.laws.lean_refilled.Goals as goal
-
-pub returns : goal.returns
-returns c = refilled

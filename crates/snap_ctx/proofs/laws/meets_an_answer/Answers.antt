@@ -1,6 +1,0 @@
--- The law, from the lemma.
-use Rattle.snap_ctx.proofs.Answers.{Meets-an_answer}
-use Rattle.snap_ctx.proofs.laws.meets_an_answer.Goals as goal
-
-pub returns : goal.returns
-returns c = Meets-an_answer

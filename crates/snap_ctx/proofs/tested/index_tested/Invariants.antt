@@ -1,8 +1,0 @@
--- The atoms so far.
-use Rattle.std.proofs.Common.{take}
-use Rattle.std.specs.List.{All}
-use Rattle.snap_ctx.specs.Known.{AtomOver}
-use Rattle.snap_ctx.proofs.tested.index_tested.Given as goal
-
-abbrev pub invariant-loop-atom : goal.invariant-loop-atom
-invariant-loop-atom l = All (AtomOver l.set) (take l.atom-index l.atom-items)

@@ -1,9 +1,0 @@
-pub mod Answers
-pub mod Classes
-pub mod Closing
-pub mod Facts
-pub mod Known
-pub mod Lean
-pub mod Meets
-pub mod Tested
-pub mod View

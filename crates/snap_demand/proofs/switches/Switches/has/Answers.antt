@@ -1,6 +1,0 @@
-use Rattle.snap_demand.specs.Marks.{has_switch}
-use Rattle.snap_demand.proofs.switches.Switches.has.Goals as goal
-
-pub returns : goal.returns
-unfolding has_switch
-returns c = c.has_bit.ensures

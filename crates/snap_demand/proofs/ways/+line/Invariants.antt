@@ -1,6 +1,0 @@
--- The distance to the target falls.
-use Rattle.snap_route.specs.Tables.{distance_of}
-use Rattle.snap_demand.proofs.ways.+line.Given as goal
-
-abbrev pub decreases-line : goal.decreases-line
-decreases-line l = distance_of l.routes.now l.at l.target

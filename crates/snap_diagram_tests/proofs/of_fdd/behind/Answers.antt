@@ -1,6 +1,0 @@
--- The diagram so far stays.
-use Rattle.snap_fdd.proofs.Shared.{argument_kept}
-use Rattle.snap_diagram_tests.proofs.of_fdd.behind.Goals as goal
-
-pub ite-requires-clause-no : goal.ite-requires-clause-no
-ite-requires-clause-no c = argument_kept c.args.groups.now c.args.ctx.now c.args.nodes.now c.mark.new.nodes c.args.d c.mark.ensures.grew c.requires

@@ -1,6 +1,0 @@
--- By the lemma.
-use Rattle.snap_fdd.proofs.Differ.{same_leaf}
-use Rattle.snap_fdd.proofs.codes.LeafCoded.codes_differ.Goals as goal
-
-pub returns : goal.returns
-returns c = same_leaf

@@ -1,7 +1,0 @@
--- What is pushed so far and what is left are the code.
-use Rattle.std.proofs.Common.{◌≡◌, ◌++◌, drop}
-use Rattle.snap_fdd.specs.Codes.{ups_code}
-use Rattle.snap_fdd.proofs.codes.push_updates.Given as goal
-
-abbrev pub invariant-loop-update : goal.invariant-loop-update
-invariant-loop-update l = l.code.items ++ ups_code (drop l.update-index l.updates) ≡ l.fn.code.items ++ ups_code l.fn.updates

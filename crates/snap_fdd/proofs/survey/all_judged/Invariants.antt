@@ -1,7 +1,0 @@
--- The arrays so far are judged.
-use Rattle.std.specs.List.{All}
-use Rattle.snap_fdd.specs.Quiet.{SeenClear}
-use Rattle.snap_fdd.proofs.survey.all_judged.Given as goal
-
-abbrev pub invariant-loop-seen : goal.invariant-loop-seen
-invariant-loop-seen l = All (SeenClear l.values) l.all.items

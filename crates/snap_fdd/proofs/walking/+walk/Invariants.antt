@@ -1,5 +1,0 @@
--- Ways are lower.
-use Rattle.snap_fdd.proofs.walking.+walk.Given as goal
-
-abbrev pub decreases-walk : goal.decreases-walk
-decreases-walk l = l.d

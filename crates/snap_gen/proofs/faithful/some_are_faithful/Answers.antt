@@ -1,5 +1,0 @@
-use Rattle.snap_gen.proofs.OneRow.{one_row_is_faithful, another_leaf_is_not}
-use Rattle.snap_gen.proofs.faithful.some_are_faithful.Goals as goal
-
-pub returns : goal.returns
-returns c = record { one_row = one_row_is_faithful; another = another_leaf_is_not }

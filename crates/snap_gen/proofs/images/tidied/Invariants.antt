@@ -1,7 +1,0 @@
--- All numbered nodes from here on have images.
-use Rattle.std.proofs.Common.{◌-◌}
-use Rattle.snap_gen.specs.Images.{HaveImages}
-use Rattle.snap_gen.proofs.images.tidied.Given as goal
-
-abbrev pub invariant-loop-step : goal.invariant-loop-step
-invariant-loop-step l = HaveImages l.groups l.fn.nodes l.nodes l.numbered.ids.items l.images.items (l.count - l.step)

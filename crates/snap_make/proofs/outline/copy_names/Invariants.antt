@@ -1,0 +1,6 @@
+-- The copies so far.
+use Rattle.std.proofs.Common.{◌≡◌, take}
+use Rattle.snap_make.proofs.outline.copy_names.Given as goal
+
+abbrev pub invariant-loop-name : goal.invariant-loop-name
+invariant-loop-name l = l.copies.items ≡ take l.name-index l.fn.names

@@ -1,7 +1,0 @@
--- No number so far will do.
-use Rattle.std.proofs.Common.{ℕ, ◌<◌}
-use Rattle.snap_model.specs.Asks.{IsNever}
-use Rattle.snap_model.proofs.ask.settle.Given as goal
-
-abbrev pub invariant-loop-num : goal.invariant-loop-num
-invariant-loop-num l = (j : ℕ) → j < l.num → IsNever l.ctx l.ask j

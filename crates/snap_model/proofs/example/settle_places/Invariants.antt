@@ -1,9 +1,0 @@
--- The places of the facts so far are settled.
-use Rattle.std.proofs.Common.{◌≡◌, ◌++◌, List}
-use Rattle.snap_ctx.specs.declared.fact.Fact.{Fact}
-use Rattle.snap_model.specs.Models.{Settles}
-use Rattle.snap_model.proofs.example.settle_places.Given as goal
-
-abbrev pub invariant-loop-fact : goal.invariant-loop-fact
-invariant-loop-fact l =
-    (seen : List Fact) × (seen ++ l.fact-iterator.left.now ≡ l.ctx.facts) × Settles l.ctx l.yes seen l.initial.draft l.draft

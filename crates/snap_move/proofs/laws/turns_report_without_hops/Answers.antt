@@ -1,5 +1,0 @@
-use Rattle.snap_move.proofs.WithoutHops.{turns_without_hops}
-use Rattle.snap_move.proofs.laws.turns_report_without_hops.Goals as goal
-
-pub returns : goal.returns
-returns c = turns_without_hops

@@ -1,5 +1,0 @@
-use Rattle.snap_order.proofs.Keeping.{keeps_order}
-use Rattle.snap_order.proofs.laws.faithful_keeps_order.Goals as goal
-
-pub returns : goal.returns
-returns c = keeps_order

@@ -1,9 +1,0 @@
-use Rattle.std.proofs.Common.{◌≡◌, ◌++◌, option_map}
-use Rattle.toml.specs.View.{members_view, table_view}
-use Rattle.snap_place.specs.Shape.{entries_in}
-use Rattle.snap_place.specs.Texts.{vec_texts}
-use Rattle.snap_place.proofs.document.entries.Given as goal
-
--- the entries so far, before those that are left
-abbrev pub invariant-loop-key : goal.invariant-loop-key
-invariant-loop-key l = option_map (λ rest. vec_texts l.entries ++ rest) (entries_in (members_view l.key-iterator)) ≡ entries_in (table_view l.table)

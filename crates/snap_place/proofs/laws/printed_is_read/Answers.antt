@@ -1,5 +1,0 @@
-use Rattle.snap_place.proofs.ReadBack.{printed_is_read}
-use Rattle.snap_place.proofs.laws.printed_is_read.Goals as goal
-
-pub returns : goal.returns
-returns c = printed_is_read

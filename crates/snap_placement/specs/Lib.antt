@@ -1,0 +1,15 @@
+pub mod Answer
+pub mod Laws
+pub mod Order
+pub mod Printed
+pub mod Shape
+pub mod Texts
+pub mod Together
+pub mod DemandAnswer
+pub mod Costs
+pub mod Faults
+pub mod DemandListing
+pub mod Marks
+pub mod Placements
+pub mod DemandShape
+pub mod Steps

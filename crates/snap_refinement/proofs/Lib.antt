@@ -1,0 +1,17 @@
+pub mod Entered
+pub mod Sets
+pub mod SequentialReport
+pub mod Short
+pub mod Made
+pub mod Picking
+pub mod InOrder
+pub mod Earlier
+pub mod Alone
+pub mod Pieces
+pub mod Whole
+pub mod Report
+pub mod OneProgram
+pub mod Once
+pub mod WithoutHops
+pub mod Lines
+pub mod InForce

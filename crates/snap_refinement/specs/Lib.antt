@@ -1,0 +1,6 @@
+pub mod OneSwitch
+pub mod Laws
+pub mod InOrder
+pub mod ChangingSwitch
+pub mod InForce
+pub mod ChangeLaws

@@ -1,5 +1,0 @@
-pub mod Joined
-pub mod Levels
-pub mod Nearest
-pub mod Reaching
-pub mod Walking

@@ -1,6 +1,0 @@
-pub mod Faults
-pub mod Graphs
-pub mod Hops
-pub mod Search
-pub mod Tables
-pub mod Walks

@@ -1,7 +1,0 @@
-use Rattle.std.proofs.Common.{◌≡◌, drop}
-use Rattle.snap_seek.specs.Answer.{entry_for}
-use Rattle.snap_seek.specs.Listing.{entry_texts}
-use Rattle.snap_seek.proofs.marks.entry_for.Given as goal
-
-abbrev pub invariant-loop-entry : goal.invariant-loop-entry
-invariant-loop-entry l = entry_for (entry_texts (drop l.entry-index l.entries)) l.name ≡ entry_for (entry_texts l.entries) l.name

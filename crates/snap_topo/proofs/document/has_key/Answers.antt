@@ -1,6 +1,0 @@
-use Rattle.std.proofs.Common.{◌∙◌}
-use Rattle.snap_topo.proofs.TableLemmas.{is_some-member}
-use Rattle.snap_topo.proofs.document.has_key.Goals as goal
-
-pub returns : goal.returns
-returns c = c.contains_key.ensures ∙ is_some-member c.args.key.now c.args.table.now.entries

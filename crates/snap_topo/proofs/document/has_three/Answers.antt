@@ -1,6 +1,0 @@
-use Rattle.std.proofs.Common.{◌∙◌, ap, ◌==◌, sym}
-use Rattle.snap_topo.proofs.TableLemmas.{member_count-view}
-use Rattle.snap_topo.proofs.document.has_three.Goals as goal
-
-pub returns : goal.returns
-returns c = ap (λ n. n == 3) (c.len.ensures.len ∙ sym (member_count-view _))

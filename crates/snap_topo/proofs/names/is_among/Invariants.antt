@@ -1,6 +1,0 @@
-use Rattle.std.proofs.Common.{◌≡◌, drop}
-use Rattle.snap_topo.specs.Spells.{is_switch}
-use Rattle.snap_topo.proofs.names.is_among.Given as goal
-
-abbrev pub invariant-loop-known : goal.invariant-loop-known
-invariant-loop-known l = is_switch (drop l.known-index l.names) l.name ≡ is_switch l.names l.name

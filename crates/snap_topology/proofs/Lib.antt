@@ -1,0 +1,16 @@
+pub mod AnsweredTopology
+pub mod Shaped
+pub mod Forms
+pub mod NumberLemmas
+pub mod Numerals
+pub mod Pairs
+pub mod Ports
+pub mod Repeats
+pub mod SpelledTopology
+pub mod Stages
+pub mod TableLemmas
+pub mod Joined
+pub mod Levels
+pub mod Nearest
+pub mod Reaching
+pub mod Walking

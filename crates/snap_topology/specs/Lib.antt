@@ -1,0 +1,12 @@
+pub mod Answer
+pub mod Form
+pub mod Listing
+pub mod Pairs
+pub mod Shape
+pub mod Spells
+pub mod Faults
+pub mod Graphs
+pub mod Hops
+pub mod Search
+pub mod Tables
+pub mod Walks

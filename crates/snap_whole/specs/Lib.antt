@@ -1,3 +1,0 @@
-pub mod OneSwitch
-pub mod Laws
-pub mod InOrder
