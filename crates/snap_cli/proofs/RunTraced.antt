@@ -8,7 +8,7 @@ use Rattle.snap_faithful.specs.Faithful.{most_hops}
 use Rattle.snap_runs.specs.Laws.{SequentialSchedulesRunSequentially, RunsReportWithoutHops, SchedulesKeepOrder}
 use Rattle.snap_runs.specs.Reports.{IsRunReportBy}
 use Rattle.snap_runs.specs.Schedules.{IsSequential, IsScheduleReport}
-use Rattle.snap_refinement.specs.InOrder.{IsSwitchReportIn, SingleOwnerRunsReportInOrder, TheReportIsInOrder}
+use Rattle.snap_refinement.specs.InOrder.{IsSwitchReportIn, SingleOwnerRunsReportInForkOrder, TheReportIsInOrder}
 use Rattle.snap_refinement.specs.Laws.{SequentialRunsReportOneSwitch, IsHopWithin, PlainRunsAreShort, PlainRunsReportOneSwitch, RunsAreShort}
 use Rattle.snap_refinement.specs.OneSwitch.{IsSwitchReport}
 use Rattle.snap_order.specs.OneRounds.{RoundsRunToEnds}
@@ -17,7 +17,7 @@ use Rattle.snap_order.specs.Ordered.{happenings}
 use Rattle.snap_order.specs.Rounds.{IsRoundReport}
 use Rattle.snap_order.specs.ShortTurns.{PlainRunsInOrderAreShort, RunsInOrderAreShort}
 use Rattle.snap_cli.specs.Compile.{version_of}
-use Rattle.snap_cli.specs.Headline.{MakesFewHops, RunInOrder, TakeEffectIn, TellsInOrder, TracesInOrder, frames_of}
+use Rattle.snap_cli.specs.Headline.{MakesFewHops, RunByOrder, TakeEffectIn, TellsByOrder, TracesByOrder, frames_of}
 use Rattle.snap_cli.specs.Laws.{RoundsExactly, SchedulesExactly, TurnsExactly}
 use Rattle.snap_cli.proofs.Shared.{All, AnswersExactly, CompilesExactly, ended, Faithful, file_of, Files, in_order, IsPacketOf, IsPlainReport, lines_of, option_map, Order, plain, ports_of, Program, rounds, schedule, spelled, SpelledForIsSpelled, SpelledPacketsFit, Tables, TablesOf, Topology, TracesExactly}
 use Rattle.snap_cli.proofs.InOrderTraced.{IsTurnsReport, in_order_ran}
@@ -27,11 +27,11 @@ use Rattle.snap_cli.proofs.Traced.{plain_ran, told}
 
 module _ (without : RunsReportWithoutHops) (in_order_is : TheReportIsInOrder) where
   -- a run is told by its report
-  tells : (files : Files) (order : Order) (file : List ℕ) (p : Program) (topology : Topology) (on_demand : Bool) (ks : List (List ℕ)) (hops : Bool) (text : List ℕ) (r : RunInOrder files order file ks)
+  tells : (files : Files) (order : Order) (file : List ℕ) (p : Program) (topology : Topology) (on_demand : Bool) (ks : List (List ℕ)) (hops : Bool) (text : List ℕ) (r : RunByOrder files order file ks)
       → IsRunReportBy (frames_of order) r.tables hops (length ks) r.end r.happenings text
       → ((report : List ℕ) → IsRunReportBy (frames_of order) r.tables false (length ks) r.end r.happenings report
       → (numbers : List ℕ) → TakeEffectIn files order r.tables ks r.happenings numbers → IsSwitchReportIn p (ports_of topology) ks numbers report)
-      → MakesFewHops p topology on_demand r.happenings → TellsInOrder files order file p topology on_demand ks hops text
+      → MakesFewHops p topology on_demand r.happenings → TellsByOrder files order file p topology on_demand ks hops text
   tells files order file p topology on_demand ks hops text r report one short =
       let bare = without (frames_of order) r.tables hops (length ks) r.end r.happenings text report in
       record { run = r; report = report; plain = bare.0; plain_report = bare.1; same = bare.2; one_switch = one bare.0 bare.1; short = short }
@@ -46,7 +46,7 @@ module _ (without : RunsReportWithoutHops) (in_order_is : TheReportIsInOrder) wh
 
   module _ (exactly : AnswersExactly) (compiles : CompilesExactly) (fit : SpelledPacketsFit) (whole : SpelledForIsSpelled) where
     -- ---- one packet after another
-    pub plain_traces : TracesExactly → PlainRunsReportOneSwitch → PlainRunsAreShort → TracesInOrder plain
+    pub plain_traces : TracesExactly → PlainRunsReportOneSwitch → PlainRunsAreShort → TracesByOrder plain
     plain_traces traces one short files later program topology placement tables packets on_demand hops output report c is d =
         let x = told exactly compiles fit whole (λ n ks. IsPlainReport n hops ks report) files later program topology placement tables packets on_demand hops plain output report c is d
         (plain_ran traces later tables packets hops report d) in
@@ -64,7 +64,7 @@ module _ (without : RunsReportWithoutHops) (in_order_is : TheReportIsInOrder) wh
         )
 
     -- ---- by a schedule
-    module _ (keeps : SchedulesKeepOrder) (sequentially : SequentialSchedulesRunSequentially) (sequential_one : SequentialRunsReportOneSwitch) (single_owner_one : SingleOwnerRunsReportInOrder) where
+    module _ (keeps : SchedulesKeepOrder) (sequentially : SequentialSchedulesRunSequentially) (sequential_one : SequentialRunsReportOneSwitch) (single_owner_one : SingleOwnerRunsReportInForkOrder) where
       by_schedule : (lines : List (List ℕ)) (p : Program) (topology : Topology) (places : List ℕ) (n : Tables) → Faithful p topology places n → (ks : List (List ℕ)) → All (IsPacketOf p) ks
           → (text : List ℕ) (r : IsScheduleReport n false ks lines text) → (numbers : List ℕ)
           → (IsSequential n ks lines × (numbers ≡ numbered ks)) ⊎ (IsSingleOwner n × (numbers ≡ commits r.happenings)) → IsSwitchReportIn p (ports_of topology) ks numbers text
@@ -75,7 +75,7 @@ module _ (without : RunsReportWithoutHops) (in_order_is : TheReportIsInOrder) wh
           subst (λ l. IsSwitchReportIn p (ports_of topology) ks l text) (sym is)
           (single_owner_one p topology places n faithful single_owner ks fits r.obeys.events r.state r.happenings (keeps lines ks r.obeys.events r.obeys.spells) r.obeys.run r.ended text r.report)
 
-      pub schedule_traces : SchedulesExactly → RunsAreShort → (lines : List ℕ) → TracesInOrder (schedule lines)
+      pub schedule_traces : SchedulesExactly → RunsAreShort → (lines : List ℕ) → TracesByOrder (schedule lines)
       schedule_traces schedules short lines files later program topology placement tables packets on_demand hops output report c is d =
           let x = told exactly compiles fit whole (λ n ks. IsScheduleReport n hops ks (lines_of (file_of later lines)) report) files later program topology placement tables packets on_demand hops (schedule lines) output report c is d
           (scheduled schedules later tables packets lines hops report d) in
@@ -94,7 +94,7 @@ module _ (without : RunsReportWithoutHops) (in_order_is : TheReportIsInOrder) wh
     -- ---- in order
     module _ (one : PlainRunsInOrderReportOneSwitch) (lines_one : SchedulesInOrderReportOneSwitch) (keeps : SchedulesKeepOrder) (short : RunsInOrderAreShort) (plain_short : PlainRunsInOrderAreShort) where
       tells_turns : (later : Files) (lines : Option (List ℕ)) (on_demand hops : Bool) (file : List ℕ) (p : Program) (topology : Topology) (places : List ℕ) (n : Tables) → Faithful p topology places n → n.version ≡ 2 → 2 ≡ version_of on_demand → TablesOf file (Ok n)
-          → (ks : List (List ℕ)) → All (IsPacketOf p) ks → (report : List ℕ) → IsTurnsReport n hops (option_map (file_of later) lines) ks report → TellsInOrder later (in_order lines) file p topology on_demand ks hops report
+          → (ks : List (List ℕ)) → All (IsPacketOf p) ks → (report : List ℕ) → IsTurnsReport n hops (option_map (file_of later) lines) ks report → TellsByOrder later (in_order lines) file p topology on_demand ks hops report
       tells_turns later None on_demand hops file p topology places n faithful two is read ks fits report r =
           tells later (in_order None) file p topology on_demand ks hops report
           (record { tables = n; read = read; end = r.end.net; happenings = happenings r.turns; goes = (r.end, r.turns, (r.events, r.run), refl, refl) }) r.report
@@ -110,7 +110,7 @@ module _ (without : RunsReportWithoutHops) (in_order_is : TheReportIsInOrder) wh
           (λ groups most rank greatest. few_hops on_demand 2 (length groups) most (happenings r.turns) is
           (short p topology places n faithful two groups most rank greatest ks fits r.obeys.events r.state r.turns (keeps lines ks r.obeys.events r.obeys.spells) r.obeys.run))
 
-      pub turn_traces : TurnsExactly → (lines : Option (List ℕ)) → TracesInOrder (in_order lines)
+      pub turn_traces : TurnsExactly → (lines : Option (List ℕ)) → TracesByOrder (in_order lines)
       turn_traces turns lines files later program topology placement tables packets on_demand hops output report c is d =
           let x = told exactly compiles fit whole (λ n ks. (n.version ≡ 2) × IsTurnsReport n hops (option_map (file_of later) lines) ks report) files later program topology placement tables packets on_demand hops (in_order lines) output report c is d
           (in_order_ran turns later tables packets lines hops report d) in (
@@ -121,7 +121,7 @@ module _ (without : RunsReportWithoutHops) (in_order_is : TheReportIsInOrder) wh
           )
 
     -- ---- by rounds
-    pub round_traces : RoundsExactly → RunsByRoundsReportOneSwitch → RoundsRunToEnds → RunsInOrderAreShort → (workers : ℕ) → TracesInOrder (rounds workers)
+    pub round_traces : RoundsExactly → RunsByRoundsReportOneSwitch → RoundsRunToEnds → RunsInOrderAreShort → (workers : ℕ) → TracesByOrder (rounds workers)
     round_traces by_rounds one ends short workers files later program topology placement tables packets on_demand hops output report c is d =
         let x = told exactly compiles fit whole (λ n ks. (n.version ≡ 2) × IsRoundReport n hops ks report) files later program topology placement tables packets on_demand hops (rounds workers) output report c is d
         (rounds_ran by_rounds later tables packets workers hops report d) in

@@ -17,7 +17,7 @@ use Rattle.snap_rows.specs.SingleOwner.{Chain, IsSingleOwner, IsSingleOwner1, fi
 use Rattle.snap_rows.specs.Rules.{IsValid, RowKeeps}
 use Rattle.std.proofs.lemmas.Option.{same_Some}
 use Rattle.snap_rows.proofs.Rows.{All-get, node_entry, nodes}
-use Rattle.snap_cli.specs.Headline.{SingleOwnerPlacementsTraceInOrder, SingleOwnerTablesTraceInOrder, TracesInOrder}
+use Rattle.snap_cli.specs.Headline.{SingleOwnerPlacementsTraceInForkOrder, SingleOwnerTablesTraceInForkOrder, TracesByOrder}
 use Rattle.snap_cli.proofs.Shared.{All, All-cons, All-head, All-nil, All-tail, AnswersExactly, CompilesExactly, file_of, IsWellFormed, option_map, schedule, slice_get, Tables}
 use Rattle.snap_cli.proofs.Traced.{compiled, same_tables}
 
@@ -74,13 +74,13 @@ placed_at_one t places form valid owners one =
     let at = all_at t.arrays one.0 (subst (All (λ x. x ≡ one.0)) (sym owners) one.1) in
     (λ first. single_owner_one t one.0 at form valid first, λ _. (one.0, at))
 
-pub single_owner_tables : ((lines : List ℕ) → TracesInOrder (schedule lines)) → SingleOwnerTablesTraceInOrder
+pub single_owner_tables : ((lines : List ℕ) → TracesByOrder (schedule lines)) → SingleOwnerTablesTraceInForkOrder
 single_owner_tables law files later program topology placement tables packets lines on_demand hops output report c is single_owner d =
     let x = law lines files later program topology placement tables packets on_demand hops output report c is d in
     (x.0, x.1, x.2, x.3, x.3.one_switch (commits x.3.run.happenings) (inr (single_owner x.3.run.tables x.3.run.read, refl)))
 
 -- what is compiled onto one switch is read as such tables
-pub single_owner_placement : AnswersExactly → CompilesExactly → SingleOwnerTablesTraceInOrder → SingleOwnerPlacementsTraceInOrder
+pub single_owner_placement : AnswersExactly → CompilesExactly → SingleOwnerTablesTraceInForkOrder → SingleOwnerPlacementsTraceInForkOrder
 single_owner_placement exactly compiles law files later program topology placement tables packets lines on_demand hops output report c at_one is d =
     let made = compiled exactly compiles files program topology placement on_demand output c in
     let of = made.1 in

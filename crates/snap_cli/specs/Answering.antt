@@ -70,7 +70,7 @@ pub record NamePorts (fields : List Field) (ports : ℕ → List ℕ) (packets :
 abbrev pub LeadToEnd : Tables → (ks lines : List (List ℕ)) → Type 0
 LeadToEnd t ks lines = (s : Net) × (hs : List Happening) × Obeys t ks lines [] s hs × (s.flying ≡ [])
 
--- the same in order
+-- the same for runs in order
 abbrev pub LeadToEndInOrder : Tables → (ks lines : List (List ℕ)) → Type 0
 LeadToEndInOrder t ks lines = (s : Ordered) × (us : List OrderedHappening) × turns.Obeys t ks lines [] s us × (s.net.flying ≡ [])
 
@@ -80,7 +80,7 @@ pub record CanBeDone (Lead : Tables → (ks lines : List (List ℕ)) → Type 0)
   pub lead : (t : Tables) → TablesOf (file_of files tables) (Ok t)
       → Lead t (spelled_for t (file_of files packets)).packets (lines_of (file_of files lines))
 
--- the schedule of an order in order, if it has one, can be done
+-- the schedule of a run in order, if it has one, can be done
 abbrev pub TurnsCanBeDone : Files → (tables packets : List ℕ) → Option (List ℕ) → Type 0
 TurnsCanBeDone files tables packets None = Unit {0}
 TurnsCanBeDone files tables packets (Some lines) = CanBeDone LeadToEndInOrder files tables packets lines

@@ -23,7 +23,7 @@ pub record AreSpelled (files : Files) (program topology placement : List ℕ) (p
   pub has_routes : (table : Table) × AreRoutes t table
   pub the_placement : PlacementOf p t (file_of files placement) (Ok places)
 
--- the version of the tables that are asked for: 2, in which packets can overlap in order; or with `--on-demand` 1, in which each goes
+-- the version of the tables that are asked for: 2, in which packets can overlap and be served in order; or with `--on-demand` 1, in which each goes
 -- only where its program needs it
 abbrev pub version_of : (on_demand : Bool) → ℕ
 version_of true = 1

@@ -70,30 +70,30 @@ pub record TellsRun (Run : Type 0) (IsReport : Run → (hops : Bool) → List �
   pub short : IsShort run
 
 -- ---- the run of packets in an order of events
--- the run in order of packets: one after the other, or of exactly the events that lines order, to an end
+-- the run of packets with `--ordered`: one after the other, or of exactly the events that lines order, to an end
 abbrev pub IsRunInOrder : Tables → List (List ℕ) → Option (List (List ℕ)) → Ordered → List OrderedHappening → Type 0
 IsRunInOrder t ks None end us = (es : List Event) × turn_runs.IsPlainRun t zero_arrays (entering ks) es end us
 IsRunInOrder t ks (Some lines) end us = turn_runs.Obeys t ks lines [] end us × (end.net.flying ≡ [])
 
 -- what happens to these packets in this order, to an end; changes of tables are in `Upgrades`
-abbrev pub GoesInOrder : Files → Order → Tables → List (List ℕ) → Net → List Happening → Type 0
-GoesInOrder files plain t ks end hs = (es : List Event) × IsPlainRun t zero_arrays (entering ks) es end hs
-GoesInOrder files (schedule lines) t ks end hs = Obeys t ks (lines_of (file_of files lines)) [] end hs × (end.flying ≡ [])
-GoesInOrder files (changes lines) t ks end hs = ⊥
-GoesInOrder files (in_order lines) t ks end hs =
+abbrev pub GoesByOrder : Files → Order → Tables → List (List ℕ) → Net → List Happening → Type 0
+GoesByOrder files plain t ks end hs = (es : List Event) × IsPlainRun t zero_arrays (entering ks) es end hs
+GoesByOrder files (schedule lines) t ks end hs = Obeys t ks (lines_of (file_of files lines)) [] end hs × (end.flying ≡ [])
+GoesByOrder files (changes lines) t ks end hs = ⊥
+GoesByOrder files (in_order lines) t ks end hs =
     (s : Ordered) × (us : List OrderedHappening) × IsRunInOrder t ks (option_map (λ name. lines_of (file_of files name)) lines) s us × (end ≡ s.net) × (hs ≡ turning.happenings us)
-GoesInOrder files (rounds workers) t ks end hs =
+GoesByOrder files (rounds workers) t ks end hs =
     (s : Ordered) × (us : List OrderedHappening) × ((es : List Event) × GoesByRounds t (entering ks) (turning.begin t zero_arrays) es s us) × (end ≡ s.net) × (hs ≡ turning.happenings us)
 
 -- the run, over the tables of this file
-pub record RunInOrder (files : Files) (order : Order) (file : List ℕ) (ks : List (List ℕ)) : Type 0 where
+pub record RunByOrder (files : Files) (order : Order) (file : List ℕ) (ks : List (List ℕ)) : Type 0 where
   pub tables : Tables
   pub read : TablesOf file (Ok tables)
   pub end : Net
   pub happenings : List Happening
-  pub goes : GoesInOrder files order tables ks end happenings
+  pub goes : GoesByOrder files order tables ks end happenings
 
--- in order and by rounds the frames of hops begin with the packet's number
+-- with `--ordered` and by rounds the frames of hops begin with the packet's number
 abbrev pub frames_of : Order → Frames
 frames_of plain = Plain
 frames_of (schedule lines) = Plain
@@ -101,8 +101,8 @@ frames_of (changes lines) = Plain
 frames_of (in_order lines) = Numbered
 frames_of (rounds workers) = Numbered
 
--- The packets take effect in this order of their numbers: as they come in, one after another or in order; and by a schedule as they
--- come in where it is sequential, and as they fork where the tables are single-owner.
+-- The packets take effect in this order of their numbers: as they come in, one after another or with `--ordered`; and by a schedule
+-- as they come in where it is sequential, and as they fork where the tables are single-owner.
 abbrev pub TakeEffectIn : Files → Order → Tables → List (List ℕ) → List Happening → (numbers : List ℕ) → Type 0
 TakeEffectIn files plain t ks hs numbers = numbers ≡ numbered ks
 TakeEffectIn files (schedule lines) t ks hs numbers = (IsSequential t ks (lines_of (file_of files lines)) × (numbers ≡ numbered ks)) ⊎ (IsSingleOwner t × (numbers ≡ commits hs))
@@ -117,21 +117,21 @@ MakesFewHops p t on_demand hs = (groups : List ℕ) (d : ℕ) → IsRank p.body 
 
 -- The text tells a run of these packets in this order, over the tables of this file; and one big switch does the same with the packets in
 -- the order in which they take effect.
-abbrev pub TellsInOrder : Files → Order → (file : List ℕ) → Program → Topology → (on_demand : Bool) → List (List ℕ) → (hops : Bool) → (text : List ℕ) → Type 0
-TellsInOrder files order file p t on_demand ks hops text =
-    TellsRun (RunInOrder files order file ks)
+abbrev pub TellsByOrder : Files → Order → (file : List ℕ) → Program → Topology → (on_demand : Bool) → List (List ℕ) → (hops : Bool) → (text : List ℕ) → Type 0
+TellsByOrder files order file p t on_demand ks hops text =
+    TellsRun (RunByOrder files order file ks)
     (λ r told. IsRunReportBy (frames_of order) r.tables told (length ks) r.end r.happenings)
     (λ r report. (numbers : List ℕ) → TakeEffectIn files order r.tables ks r.happenings numbers → IsSwitchReportIn p (ports_of t) ks numbers report)
     (λ r. MakesFewHops p t on_demand r.happenings) hops text
 
 -- **A call of `compile` answered 0, and a call of `trace` with its output as the file of tables answered 0, in this order and with
 -- hops or without. Then so it is with what the second wrote.**
-abbrev pub TracesInOrder : Order → Type 0
-TracesInOrder order = (files later : Files) (program topology placement tables packets : List ℕ) (on_demand hops : Bool) (compiled report : List ℕ)
+abbrev pub TracesByOrder : Order → Type 0
+TracesByOrder order = (files later : Files) (program topology placement tables packets : List ℕ) (on_demand hops : Bool) (compiled report : List ℕ)
     → Did files (compile program topology placement on_demand) compiled
     → file_of later tables ≡ compiled → Did later (trace tables packets hops order) report
     → (p : Program) × (t : Topology) × AreGiven files program topology (file_of later packets) p t
-    × TellsInOrder later order (file_of later tables) p t on_demand (spelled p.fields (file_of later packets)).packets hops report
+    × TellsByOrder later order (file_of later tables) p t on_demand (spelled p.fields (file_of later packets)).packets hops report
 
 -- ---- the report without hops, in each order
 -- what one big switch does with the packets of a file, for the program and at the ports of the topology that the files of `compile` spell
@@ -228,19 +228,19 @@ AreSingleOwner files tables = (t : Tables) → TablesOf (file_of files tables) (
 abbrev pub TellsForks : Files → Files → (program topology tables packets lines : List ℕ) → (on_demand hops : Bool) → (text : List ℕ) → Type 0
 TellsForks files later program topology tables packets lines on_demand hops text =
     (p : Program) × (t : Topology) × AreGiven files program topology (file_of later packets) p t
-    × (told : TellsInOrder later (schedule lines) (file_of later tables) p t on_demand (spelled p.fields (file_of later packets)).packets hops text)
+    × (told : TellsByOrder later (schedule lines) (file_of later tables) p t on_demand (spelled p.fields (file_of later packets)).packets hops text)
     × IsSwitchReportIn p (ports_of t) (spelled p.fields (file_of later packets)).packets (commits told.run.happenings) told.plain
 
 -- **Where `compile` answered 0 for a placement that puts all arrays at one switch, so it is with each schedule, whatever packets overlap.**
-abbrev pub SingleOwnerPlacementsTraceInOrder : Type 0
-SingleOwnerPlacementsTraceInOrder = (files later : Files) (program topology placement tables packets lines : List ℕ) (on_demand hops : Bool) (compiled report : List ℕ)
+abbrev pub SingleOwnerPlacementsTraceInForkOrder : Type 0
+SingleOwnerPlacementsTraceInForkOrder = (files later : Files) (program topology placement tables packets lines : List ℕ) (on_demand hops : Bool) (compiled report : List ℕ)
     → Did files (compile program topology placement on_demand) compiled → StandAtOne files program topology placement
     → file_of later tables ≡ compiled → Did later (trace tables packets hops (schedule lines)) report
     → TellsForks files later program topology tables packets lines on_demand hops report
 
 -- **So it is where the tables that it reads are such.**
-abbrev pub SingleOwnerTablesTraceInOrder : Type 0
-SingleOwnerTablesTraceInOrder = (files later : Files) (program topology placement tables packets lines : List ℕ) (on_demand hops : Bool) (compiled report : List ℕ)
+abbrev pub SingleOwnerTablesTraceInForkOrder : Type 0
+SingleOwnerTablesTraceInForkOrder = (files later : Files) (program topology placement tables packets lines : List ℕ) (on_demand hops : Bool) (compiled report : List ℕ)
     → Did files (compile program topology placement on_demand) compiled
     → file_of later tables ≡ compiled → AreSingleOwner later tables → Did later (trace tables packets hops (schedule lines)) report
     → TellsForks files later program topology tables packets lines on_demand hops report

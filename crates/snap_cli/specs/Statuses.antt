@@ -16,7 +16,7 @@ abbrev pub statuses_of_schedule : Option (List ℕ) → List ℕ
 statuses_of_schedule None = []
 statuses_of_schedule (Some lines) = 13 ∷ []
 
--- 16 comes only in order, and 20 only with changes
+-- 16 comes only with `--ordered`, and 20 only with changes
 abbrev pub statuses_of_order : Order → List ℕ
 statuses_of_order plain = []
 statuses_of_order (schedule lines) = 13 ∷ []

@@ -46,7 +46,7 @@ MayPrecedeRun files t packets hops (in_order lines) text = (t.version ≡ 2) × 
 MayPrecedeRun files t packets hops (rounds workers) text = text ≡ []
 
 -- what may have gone out where the run can't read the file with this name: the packets, the schedule once these are read, or a
--- file of the changes before any packet; in order, where the tables are of version 2
+-- file of the changes before any packet; with `--ordered`, where the tables are of version 2
 abbrev pub MayPrecedeReadRun : Files → Tables → (packets : List ℕ) → (hops : Bool) → Order → (name : List ℕ) → List ℕ → Type 0
 MayPrecedeReadRun files t packets hops plain name text = (name ≡ packets) × AreTraceBlocks t hops (file_of files packets) text
 MayPrecedeReadRun files t packets hops (schedule lines) name text = IsOfSchedule t (file_of files packets) packets lines name × (text ≡ [])

@@ -2,7 +2,7 @@
 
 ghost use Rattle.std.specs.Prelude.{List, Option, ℕ};
 ghost use Rattle.snap_words.specs.Commands.{in_order, plain, rounds, schedule};
-ghost use Rattle.snap_cli.specs.Headline.{CallsTraceAsOneSwitch, SingleOwnerPlacementsTraceInOrder, SingleOwnerTablesTraceInOrder, RoundsTraceAlike, RoundsTraceAsOneSwitch, RoundsTraceAsPlain, SchedulesTraceAsOneSwitch, TracesAsOneSwitch, TracesInOrder, TurnsTraceAsOneSwitch, TurnsTraceAsPlain};
+ghost use Rattle.snap_cli.specs.Headline.{CallsTraceAsOneSwitch, SingleOwnerPlacementsTraceInForkOrder, SingleOwnerTablesTraceInForkOrder, RoundsTraceAlike, RoundsTraceAsOneSwitch, RoundsTraceAsPlain, SchedulesTraceAsOneSwitch, TracesAsOneSwitch, TracesByOrder, TurnsTraceAsOneSwitch, TurnsTraceAsPlain};
 ghost use Rattle.snap_cli.specs.Upgrades.{ChangesTraceAsOneSwitch, UpgradesTraceAsOneSwitch};
 
 use crate::laws::{
@@ -19,7 +19,7 @@ use snap_refinement::change_laws::{
 };
 use snap_refinement::laws::{
     orders_have_one_report, runs_are_short, sequential_runs_report_one_switch,
-    single_owner_runs_report_in_order,
+    single_owner_runs_report_in_fork_order,
 };
 use snap_runs::laws::{
     runs_report_without_hops, sequential_schedules_run_sequentially, spelled_packets_fit,
@@ -28,13 +28,14 @@ use snap_runs::laws::{
 /// **A call of `compile` answered 0, and a call of `trace` with its output as the file of tables answered 0, in any order of
 /// events and with hops or without. Then what the second wrote is the report of a run in that order. Without the hops it is what
 /// one big switch does with the packets in the order in which they take effect, and no copy makes more than (groups + 1) times
-/// the greatest distance hops, or where `compile` had `--on-demand` (2 groups + 1) times.** They take effect as they come in, one
-/// after another, in order, by rounds, and by a schedule that is sequential; and by any schedule as they fork where the tables are single-owner.
+/// the greatest distance hops, or where `compile` had `--on-demand` (2 groups + 1) times.** They take effect as they come in in
+/// plain runs, with `--ordered`, by rounds, and by a schedule that is sequential; and by any schedule as they fork where the
+/// tables are single-owner.
 pub fn runs_trace_as_one_switch()
-    ensures each { TracesInOrder plain }
-    ensures schedules { (lines : List ℕ) → TracesInOrder (schedule lines) }
-    ensures turns { (lines : Option (List ℕ)) → TracesInOrder (in_order lines) }
-    ensures by_rounds { (workers : ℕ) → TracesInOrder (rounds workers) }
+    ensures each { TracesByOrder plain }
+    ensures schedules { (lines : List ℕ) → TracesByOrder (schedule lines) }
+    ensures turns { (lines : Option (List ℕ)) → TracesByOrder (in_order lines) }
+    ensures by_rounds { (workers : ℕ) → TracesByOrder (rounds workers) }
 {
     answers_exactly();
     compiles_exactly();
@@ -47,7 +48,7 @@ pub fn runs_trace_as_one_switch()
     orders_have_one_report();
     sequential_schedules_run_sequentially();
     sequential_runs_report_one_switch();
-    single_owner_runs_report_in_order();
+    single_owner_runs_report_in_fork_order();
     runs_are_short();
     runs_in_order_report_one_switch();
     rounds_are_deterministic();
@@ -84,8 +85,8 @@ pub fn schedules_trace_as_one_switch()
 /// what one big switch does with the packets in the order in which they fork, each block at its packet's number. With `--hops` the
 /// hops of that run stand there too.
 pub fn single_owner_schedules_trace_as_one_switch()
-    ensures placed { SingleOwnerPlacementsTraceInOrder }
-    ensures tables { SingleOwnerTablesTraceInOrder }
+    ensures placed { SingleOwnerPlacementsTraceInForkOrder }
+    ensures tables { SingleOwnerTablesTraceInForkOrder }
 {
     answers_exactly();
     compiles_exactly();

@@ -137,7 +137,7 @@ pub fn rounds_exactly()
 
 /// **Where `compile` answered 0, `trace` of its output answers 0 too, or 14 where memory is short, unless a device failed,** if
 /// all lines of the packets file are in form and each packet names a port of the topology: one packet after another, in the
-/// order of each schedule that can be done to an end, and where `compile` had no `--on-demand` in order and by rounds too. With
+/// order of each schedule that can be done to an end, and where `compile` had no `--on-demand` with `--ordered` and by rounds too. With
 /// `--changes` so it is, with `--on-demand` or without, where the changes file is in form, each file of tables that it names is
 /// what `compile` wrote for a program declared like the first, and each packet names a port of the topology that is in force for it.
 pub fn traces_answer()

@@ -87,13 +87,13 @@ pub enum NoPlacement {
     /// The program has no such array.
     NoArray { name: Name },
 
-    /// This one of the program's arrays has no place.
+    /// This one of the program's arrays has no switch.
     NoPlace { arrays: Names, array: u16 },
 
-    /// The place of this one of the program's arrays is no switch.
+    /// What stands for this one of the program's arrays is no switch.
     NoSwitch { arrays: Names, array: u16 },
 
-    /// These two of the program's arrays are tied and have places at different switches.
+    /// These two of the program's arrays are tied and stand at different switches.
     Apart { arrays: Names, a: u16, b: u16 },
 }
 

@@ -6,7 +6,7 @@ use Rattle.snap_rows.specs.Network.{Event}
 use Rattle.snap_order.specs.Ordered.{LeadsInOrder, Ordered, OrderedHappening}
 use Rattle.snap_order.specs.Runs.{ArePlainBlocks, IsPlainReport}
 
--- an event leads to one state, by the same turns
+-- an event leads to one state, and the same happens
 abbrev pub StepsAreOne : Type 0
 StepsAreOne = (t : Tables) → IsWellFormed t → (s : Ordered) (e : Event) (n n' : Ordered) (us us' : List OrderedHappening)
     → LeadsInOrder t s e n us → LeadsInOrder t s e n' us' → (n ≡ n') × (us ≡ us')

@@ -54,7 +54,7 @@ visited s i c m h b = record {
   handled = h;
 }
 
--- the event can be done, and leads from s to s'; an injection is no turn
+-- the event can be done, and leads from s to s'; of an injection nothing is told
 pub data LeadsInOrder (t : Tables) (s : Ordered) : Event → Ordered → List OrderedHappening → Type 0 where
   injects : {port w : ℕ} {k : List ℕ} → port_at t port ≡ Some w → slice_index k 0 ≡ port
       → LeadsInOrder t s (Inject port k) (record s { net = injected s.net w port k }) []
@@ -62,7 +62,7 @@ pub data LeadsInOrder (t : Tables) (s : Ordered) : Event → Ordered → List Or
   moves : {i : ℕ} {c : Copy} {m : Arrays} {a : Action} → slice_get s.net.flying i ≡ Some c
       → ((r n : ℕ) → ¬ AwaitsVisit t s.net c r n) → Handles t c.at c.packet (s.net.stores c.at) c.head m a
       → LeadsInOrder t s (Step i) (record s { net = stepped s.net i c m a }) (Happens (happening c a) ∷ [])
-  -- one before a visit makes it if the rank has handled just the packets before its own, and those after it that are in order too
+  -- one before a visit makes it if the rank has handled just the packets before its own, and those after it of which that holds too
   visits : {i : ℕ} {c : Copy} {r n : ℕ} {m : Arrays} {h : ℕ → ℕ} {b : Becomes}
       → slice_get s.net.flying i ≡ Some c → AwaitsVisit t s.net c r n → s.handled r ≡ c.number
       → TakesTurns t c.at c.packet c.number (s.net.stores c.at) s.handled r n m h b

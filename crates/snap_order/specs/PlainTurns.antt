@@ -1,4 +1,4 @@
--- A plain run is one in order.
+-- A plain run is a run in order.
 use Rattle.std.specs.Prelude.{◌≡◌, ℕ, List}
 use Rattle.snap_core.specs.Arrays.{Arrays}
 use Rattle.snap_rows.specs.declared.tables.Tables.{Tables}
@@ -17,7 +17,7 @@ pub record TakesTurns (t : Tables) (m : Arrays) (ks : List (ℕ × List ℕ)) (e
   pub net : end.net ≡ s
   pub told : happenings turns ≡ hs
 
--- **In a plain run nobody waits**: over valid tables of version 2 it is one in order.
+-- **In a plain run nobody waits**: over valid tables of version 2 it is a run in order.
 abbrev pub PlainRunsTakeTurns : Type 0
 PlainRunsTakeTurns = (t : Tables) → IsWellFormed t → IsValid t → t.version ≡ 2
     → (m : Arrays) (ks : List (ℕ × List ℕ)) (es : List Event) (s : Net) (hs : List Happening)

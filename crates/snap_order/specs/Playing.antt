@@ -23,7 +23,7 @@ left_in v = packets_in (reverse v.waiting.items)
 abbrev pub IsTally : Tables → (hops : Bool) → (i : ℕ) → List Happening → Tally → Type 0
 IsTally t hops i hs y = IsTallyBy Numbered t hops i hs y
 
--- The network shows the state after these turns, and there is a tally of each packet that was injected.
+-- The network shows the state after all this happened, and there is a tally of each packet that was injected.
 pub record Plays (t : Tables) (hops : Bool) (s : Ordered) (us : List OrderedHappening) (v : OrderedPlay) : Type 0 where
   pub tables : v.net.net.tables ≡ t
   pub hops_same : v.hops ≡ hops

@@ -25,14 +25,14 @@ pub record RepresentsInOrder (v : OrderedNetView) (s : Ordered) : Type 0 where
   pub net : Represents v.net s.net
   pub handled : (r : ℕ) → s.handled r ≡ get_or v.counts r 0
 
--- the event leads from each state that was shown to one that is shown now, with turns of which this holds
+-- the event leads from each state that was shown to one that is shown now, with happenings of which this holds
 abbrev pub SimulatesInOrder : OrderedNetView → Event → OrderedNetView → (List OrderedHappening → Type 0) → Type 0
 SimulatesInOrder old e new told = DoneBy RepresentsInOrder (LeadsInOrder old.net.tables) old e new told
 
 abbrev pub NoTurn : List OrderedHappening → Type 0
 NoTurn us = us ≡ []
 
--- what is told of a turn
+-- what is told of a happening
 abbrev pub told_of : OrderedHappening → Moved
 told_of (Happens h) = moving h
 told_of (Stays c r) = bare.Stayed c.number r

@@ -38,14 +38,14 @@ pub fn steps_in_order_can_be_made()
     ensures ends { RunsInOrderCanEnd }
 {}
 
-/// **In a plain run nobody waits**: over valid tables of version 2 the plain run of the network is one in order, step by step,
+/// **In a plain run nobody waits**: over valid tables of version 2 the plain run of the network is a run in order, step by step,
 /// with the same stores and copies, and the same happens.
 pub fn plain_runs_take_turns()
     ensures { PlainRunsTakeTurns }
 {}
 
-/// Where tables are in form, an event leads to one state by the same turns. So packets have one report in the plain run in
-/// turn, and the same blocks.
+/// Where tables are in form, an event leads to one state, and the same happens. So packets have one report in the plain run
+/// in order, and the same blocks.
 pub fn plain_reports_are_one()
     ensures steps { StepsAreOne }
     ensures reports { PlainReportsAreOne }

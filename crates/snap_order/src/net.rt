@@ -172,7 +172,7 @@ impl OrderedNet {
     }
 
     /// Makes a step of copy k, counted from 0, and tells the frame that crosses a link. A copy before a visit makes it only
-    /// where the rank has handled just the packets before its own, and then those after it that are in order too: `Waited`
+    /// where the rank has handled just the packets before its own, and then those after it of which that holds too: `Waited`
     /// where it can't make the first, `Visited` where it can't make a later one at this switch. A refusal leaves the network
     /// as it was, but for room that its stores took.
     ///

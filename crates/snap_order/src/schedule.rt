@@ -1,4 +1,4 @@
-//! The run in order over a packets file, in the order of a schedule.
+//! The run in order over a packets file, by a schedule.
 
 ghost use Rattle.std.specs.Prelude.{◌≡◌, ◌≤◌, ◌<◌, ◌+◌, ◌^◌, [], ℕ, Bool, List, length, IfOk, IfSome, IsErrOf, MatchResult, OnOk};
 ghost use Rattle.std.specs.List.{All};

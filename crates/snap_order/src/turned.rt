@@ -11,9 +11,9 @@ use snap_net::happened::{Framed, Happened, Moved};
 pub enum OrderedHappened {
     /// What a step without order does.
     Moved(Happened),
-    /// It made visits, and stays where it is for its visit of `rank`, which isn't in order.
+    /// It made visits, and stays where it is for its visit of `rank`, whose turn hasn't come.
     Visited { number: u64, rank: u16 },
-    /// It waits for its visit of `rank`, which isn't in order: nothing has changed.
+    /// It waits for its visit of `rank`, whose turn hasn't come: nothing has changed.
     Waited { number: u64, rank: u16 },
 }
 

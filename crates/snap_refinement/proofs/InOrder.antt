@@ -21,7 +21,7 @@ use Rattle.snap_faithful.proofs.Switching.{number_at, picks_all}
 use Rattle.snap_report.specs.Reports.{block, blocks, end_text}
 use Rattle.snap_runs.specs.Reports.{IsRunReport}
 use Rattle.snap_runs.proofs.InOrder.{same_lists}
-use Rattle.snap_refinement.specs.InOrder.{InOrderItIsTheReport, IsSwitchReportIn, SingleOwnerRunsReportInOrder, OrdersHaveOneReport, TheReportIsInOrder}
+use Rattle.snap_refinement.specs.InOrder.{InOrderItIsTheReport, IsSwitchReportIn, SingleOwnerRunsReportInForkOrder, OrdersHaveOneReport, TheReportIsInOrder}
 use Rattle.snap_refinement.specs.OneSwitch.{IsSwitchReport, port_lines, ports_of}
 use Rattle.snap_refinement.proofs.Entered.{no_numbers, entering-packets, entering-fits, all_enter}
 use Rattle.snap_refinement.proofs.Made.{as_many, numbered_at}
@@ -52,7 +52,7 @@ report_in p topology places t faithful ks order s hs agrees text report =
       is = report.is ∙ (λ i. (report.are.is ∙ all) i ++ end_text (faithful.shape.names i) report.entries) ∙ (λ i. blocks (port_lines (faithful.shape.fields i) (same_ports i)) 1 made.0 ++ end_text p.arrays report.entries);
     }
 
-pub single_owner_report : SingleOwnerRunsReportInOrder
+pub single_owner_report : SingleOwnerRunsReportInForkOrder
 single_owner_report p topology places t faithful single_owner ks packets es s hs enter run none text report =
     let fits = subst (All (λ (e : ℕ × List ℕ). IsPacketOf p e.1)) (sym enter) (entering-fits p ks packets) in
     let same : packets_in (packets_of es) ≡ ks = ap packets_in enter ∙ entering-packets ks in

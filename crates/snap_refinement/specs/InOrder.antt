@@ -54,8 +54,8 @@ TheReportIsInOrder = (p : Program) (ports : List ℕ) (ks : List (List ℕ)) (te
 -- ---- single-owner tables
 -- **Where all arrays stand at one switch, each run of faithful tables to an end reports exactly what one big switch does over
 -- the packets in the order in which they fork**, whatever overlaps.
-abbrev pub SingleOwnerRunsReportInOrder : Type 0
-SingleOwnerRunsReportInOrder = (p : Program) (topology : Topology) (places : List ℕ) (t : Tables) → Faithful p topology places t → IsSingleOwner t
+abbrev pub SingleOwnerRunsReportInForkOrder : Type 0
+SingleOwnerRunsReportInForkOrder = (p : Program) (topology : Topology) (places : List ℕ) (t : Tables) → Faithful p topology places t → IsSingleOwner t
     → (ks : List (List ℕ)) → All (IsPacketOf p) ks
     → (es : List Event) (s : Net) (hs : List Happening) → packets_of es ≡ entering ks → Run t zero_arrays es s hs → s.flying ≡ []
     → (text : List ℕ) → IsRunReport t false (length ks) s hs text → IsSwitchReportIn p (ports_of topology) ks (commits hs) text

@@ -1,6 +1,6 @@
 //! Laws of runs of faithful tables.
 
-ghost use Rattle.snap_refinement.specs.InOrder.{InOrderItIsTheReport, SingleOwnerRunsReportInOrder, OrdersHaveOneReport, TheReportIsInOrder};
+ghost use Rattle.snap_refinement.specs.InOrder.{InOrderItIsTheReport, SingleOwnerRunsReportInForkOrder, OrdersHaveOneReport, TheReportIsInOrder};
 ghost use Rattle.snap_refinement.specs.Laws.{SequentialRunsReportOneSwitch, PlainRunsAreShort, PlainRunsReportOneSwitch, RunsAreShort};
 
 use snap_core::laws::has_one_listing;
@@ -14,8 +14,8 @@ pub fn sequential_runs_report_one_switch()
 
 /// **Where all arrays stand at one switch, each run of faithful tables to an end reports exactly what one big switch does over
 /// the packets in the order in which they fork,** whatever packets overlap.
-pub fn single_owner_runs_report_in_order()
-    ensures { SingleOwnerRunsReportInOrder }
+pub fn single_owner_runs_report_in_fork_order()
+    ensures { SingleOwnerRunsReportInForkOrder }
 {}
 
 /// In each order of the packets one big switch has one report, and in the order of their numbers that is its report over the

@@ -14,7 +14,7 @@ returns c =
     let short = c.runs_in_order_are_short.ensures in
     record {
       each = plain_traces without in_order exactly compiles fit whole c.traces_exactly.ensures c.sequential_runs_report_one_switch.ensures.plain c.runs_are_short.ensures.plain;
-      schedules = schedule_traces without in_order exactly compiles fit whole keeps c.sequential_schedules_run_sequentially.ensures.sequential c.sequential_runs_report_one_switch.ensures.sequential c.single_owner_runs_report_in_order.ensures c.schedules_exactly.ensures c.runs_are_short.ensures.all;
+      schedules = schedule_traces without in_order exactly compiles fit whole keeps c.sequential_schedules_run_sequentially.ensures.sequential c.sequential_runs_report_one_switch.ensures.sequential c.single_owner_runs_report_in_fork_order.ensures c.schedules_exactly.ensures c.runs_are_short.ensures.all;
       turns = turn_traces without in_order exactly compiles fit whole turns.plain turns.schedules keeps short.all short.plain c.turns_exactly.ensures;
       by_rounds = round_traces without in_order exactly compiles fit whole c.rounds_exactly.ensures turns.rounds c.rounds_are_deterministic.ensures.runs short.all;
     }
