@@ -120,7 +120,7 @@ fn put_copies(
 
 // Does updates at the switch of copy k, and puts copies in its place.
 #[inline(never)]
-fn fork(
+fn replace(
     alloc: Global,
     stores: &mut Vec<Store>,
     flying: &mut Flights,
@@ -201,7 +201,7 @@ fn part(
 {
     let Spread { copies, lost } = spread_out(alloc, tables, outs, &flying.get(k).packet)?;
     let count = copies.len() as u64;
-    let gone = fork(alloc, stores, flying, k, ups, copies)?;
+    let gone = replace(alloc, stores, flying, k, ups, copies)?;
     Ok(Moved::Forked {
         number: gone.number,
         copies: count,

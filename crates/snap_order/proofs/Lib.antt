@@ -9,7 +9,6 @@ pub mod Placed
 pub mod There
 pub mod Tallied
 pub mod Playing
-pub mod Obeying
 pub mod Serving
 pub mod Standing
 pub mod Able

@@ -1,10 +1,6 @@
 -- How a run in order goes on.
-use Rattle.std.proofs.Common.{◌≡◌, ◌⊎◌, inl, inr, ℕ, ◌+◌, ◌<◌, Bool, true, false, List, [], ◌∷◌, ◌++◌, Option, Some, get_or, take, drop, length, reverse, refl, sym, ap, subst, ◌∙◌, arith}
-use Rattle.std.specs.Prelude.{is_some, slice_get}
+use Rattle.std.proofs.Common.{◌≡◌, ℕ, ◌+◌, ◌<◌, Bool, true, false, List, [], ◌∷◌, ◌++◌, Some, get_or, take, drop, length, reverse, refl, sym, ap, subst, ◌∙◌, arith}
 use Rattle.std.specs.List.{All}
-use Rattle.std.proofs.lemmas.Bool.{false≢true}
-use Rattle.std.proofs.lemmas.List.{length-append, length-map, length-reverse, reverse-append, reverse-reverse}
-use Rattle.std.proofs.lemmas.List.Sorted.{All-permutation, IsPermutation-reverse}
 use Rattle.std.proofs.lemmas.List.Elements.{All-append, All-cons, All-drop, All-nil, All-pop, All-push, All-take, All-weaker}
 use Rattle.snap_core.specs.Arrays.{zero_arrays}
 use Rattle.snap_rows.specs.Actions.{Action, Forward, Deliver, Fork}
@@ -19,16 +15,17 @@ use Rattle.snap_faithful.specs.InOrder.{Becomes, SentOn, Waiting, Forks}
 use Rattle.snap_runs.specs.declared.frames.Frames.TheVariants.{Numbered}
 use Rattle.snap_runs.specs.declared.ready.Ready.{Ready}
 use Rattle.snap_runs.specs.declared.tally.Tally.{Tally}
-use Rattle.snap_runs.specs.Playing.{IsLong, IsReady, packets_in}
+use Rattle.snap_runs.specs.Playing.{IsReady, packets_in}
 use Rattle.snap_rows.specs.Happenings.{number_of}
-use Rattle.snap_runs.proofs.Blocks.{in_pushed}
 use Rattle.snap_runs.proofs.Steps.{held-shown, moved_numbers, number_of-happening}
 use Rattle.snap_runs.specs.Tallies.{IsThere, number_by}
-use Rattle.snap_runs.proofs.Playing.{elsewhere, number_by-moving, tally_fresh}
+use Rattle.snap_runs.specs.Runner.{HasInjected, HasStepped, IsPlaying}
+use Rattle.snap_runs.proofs.Playing.{left-next, ready-first}
+use Rattle.snap_runs.proofs.Tallied.{number_by-moving, tallied-first, tallied-injected}
 use Rattle.snap_order.specs.declared.play.OrderedPlay.{OrderedPlay}
 use Rattle.snap_net.specs.declared.happened.Moved.{Moved}
 use Rattle.snap_order.specs.Ordered.{Ordered, OrderedHappening, Happens, Stays, Waits, LeadsInOrder, begin, happenings, injects, left_by, moves, turn_of, visits, waits}
-use Rattle.snap_order.specs.Playing.{HasInjected, HasStepped, IsPlaying, IsTally, NotesTurn, NumberIsBelow, Plays, left_in}
+use Rattle.snap_order.specs.Playing.{NotesTurn, NumberIsBelow, Plays, left_in}
 use Rattle.snap_order.specs.Shown.{SimulatesInOrder, NoTurn, RepresentsInOrder, StandsTurn, TellsTurn, told_of}
 use Rattle.snap_order.proofs.There.{turn_stands, turn_there}
 use Rattle.snap_order.proofs.Tallied.{Tallied, step_long, tallied_turn}
@@ -40,16 +37,10 @@ plays_first t hops packets v tables same shows none waiting ready = record {
   tables = tables;
   hops_same = same;
   shows = shows;
-  counted = ap length none;
   below = All-nil (λ (c : Copy). c.number < 0);
-  before = All-nil (λ h. number_of h < 0);
-  tallied = λ i y is. absurd (false≢true (ap (λ (o : Option Tally). is_some o) (ap (λ l. slice_get l i) (sym none) ∙ is)));
-  long = λ i y is. absurd (false≢true (ap (λ (o : Option Tally). is_some o) (ap (λ l. slice_get l i) (sym none) ∙ is)));
-  ready = subst (All (IsReady t)) (sym waiting) (All-permutation (IsReady t) packets (reverse packets) (IsPermutation-reverse packets) ready);
+  tallies = tallied-first Numbered t hops v.tallies.items none;
+  ready = ready-first t packets v.waiting.items waiting ready;
 }
-
-pub left_first : (packets : List Ready) (v : OrderedPlay) → v.waiting.items ≡ reverse packets → left_in v ≡ packets_in packets
-left_first packets v waiting = ap packets_in (ap reverse waiting ∙ reverse-reverse packets)
 
 -- ---- numbers of packets
 -- of the copy to which a turn happens
@@ -125,37 +116,25 @@ inject_numbers {s = s} {k = k} all (injects {w = w} at first) =
 -- ---- the next packet is injected
 module _ (old new : OrderedPlay) (r : Ready) (rest : List Ready) (y : Tally) (stood : old.waiting.items ≡ rest ++ r ∷ []) (left : new.waiting.items ≡ rest) (does : SimulatesInOrder old.net (Inject r.port r.packet) new.net NoTurn)
     (same : new.net.net.tables ≡ old.net.net.tables) (same_hops : new.hops ≡ old.hops) (more : new.tallies.items ≡ old.tallies.items ++ y ∷ []) (d : y.delivered.items ≡ []) (l : y.lost ≡ 0) (h : y.hops.items ≡ []) where
-  pub plays_inject : HasInjected old new true
+  pub plays_inject : HasInjected LeadsInOrder Plays left_in old new true
   plays_inject t hops s us p =
-      let n = s.net.injected in
       let a = subst (λ t'. (s' : Ordered) × (ts : List OrderedHappening) × LeadsInOrder t' s (Inject r.port r.packet) s' ts × RepresentsInOrder new.net s' × (ts ≡ [])) p.tables (does s p.shows) in
       let numbers = inject_numbers p.below a.2 in
       let popped = All-pop (IsReady t) old.waiting.items rest (Some r) stood p.ready in
       record {
         packet = r.packet;
-        next = ap (λ ws. packets_in (reverse ws)) stood ∙ ap packets_in (reverse-append rest (r ∷ [])) ∙ ap (λ ws. r.packet ∷ packets_in (reverse ws)) (sym left);
+        next = left-next old.waiting.items rest new.waiting.items r stood left;
         state = a.0;
         leads = subst (λ q. LeadsInOrder t s (Inject q r.packet) a.0 []) (sym popped.1.first) (subst (LeadsInOrder t s (Inject r.port r.packet) a.0) a.4 a.2);
         plays = record {
           tables = same ∙ p.tables;
           hops_same = same_hops ∙ p.hops_same;
           shows = a.3;
-          counted = ap length more ∙ length-append old.tallies.items (y ∷ []) ∙ ap (λ m. m + 1) p.counted ∙ sym numbers.1;
           below = numbers.0;
-          before = All-weaker (λ x. number_of x < n) (λ x. number_of x < a.0.net.injected) (λ x less. (let g = numbers.1 in omega (arith, less, g))) (happenings us) p.before;
-          tallied = λ i z is. tallied i z (in_pushed old.tallies.items y z i (ap (λ ys. slice_get ys i) (sym more) ∙ is));
-          long = λ i z is. long i z (in_pushed old.tallies.items y z i (ap (λ ys. slice_get ys i) (sym more) ∙ is));
+          tallies = tallied-injected Numbered t hops s.net.injected (happenings us) old.tallies.items new.tallies.items p.tallies y more d l h a.0.net.injected numbers.1;
           ready = subst (All (IsReady t)) (sym left) popped.0;
         };
       }
-    where
-      tallied : (i : ℕ) (z : Tally) → ((i < length old.tallies.items) × (slice_get old.tallies.items i ≡ Some z)) ⊎ ((i ≡ length old.tallies.items) × (y ≡ z)) → IsTally t hops i (happenings us) z
-      tallied i z (inl k) = p.tallied i z k.1
-      tallied i z (inr k) = let e' = k.0 in let f = p.counted in subst (IsTally t hops i (happenings us)) k.1 (tally_fresh Numbered t hops i (happenings us) y (elsewhere s.net.injected i (happenings us) (omega (arith, e', f)) p.before) d l h)
-
-      long : (i : ℕ) (z : Tally) → ((i < length old.tallies.items) × (slice_get old.tallies.items i ≡ Some z)) ⊎ ((i ≡ length old.tallies.items) × (y ≡ z)) → IsLong (comps t) z
-      long i z (inl k) = p.long i z k.1
-      long i z (inr k) = subst (IsLong (comps t)) k.1 (subst (All (λ x. length x ≡ comps t)) (sym d) (All-nil (λ x. length x ≡ comps t)))
 
 -- ---- a copy makes a step
 module _ (old new : OrderedPlay) (place : ℕ) (told : Moved) (held : IsNetView old.net.net) (does : SimulatesInOrder old.net (Step place) new.net (TellsTurn told)) (notes : NotesTurn old.hops old.net.net.tables.switches new.net.net.flying place told old.tallies.items new.tallies.items)
@@ -164,9 +143,6 @@ module _ (old new : OrderedPlay) (place : ℕ) (told : Moved) (held : IsNetView 
     abbrev n : ℕ
     n = s.net.injected
 
-    tallied_now : Tallied t hops n us old.tallies.items
-    tallied_now = record { counted = p.counted; before = p.before; tallied = p.tallied; long = p.long }
-
     packets : All (λ (c : Copy). length c.packet ≡ comps t) s.net.flying
     packets = held-shown (λ (c : Flying). length c.packet ≡ comps t) old.net.net s.net p.shows.net (subst (λ t'. All (λ (c : Flying). length c.packet ≡ comps t') old.net.net.flying) p.tables held.packets)
 
@@ -174,20 +150,17 @@ module _ (old new : OrderedPlay) (place : ℕ) (told : Moved) (held : IsNetView 
     on s' ts leads shows u what x is noted =
         let inj : s'.net.injected ≡ n = step_injected leads in
         let numbers = step_numbers (λ m. m < n) p.below leads in
-        let y = tallied_turn t hops n us old.tallies.items new.tallies.items tallied_now ts u what new.net.net.flying place (subst (λ cs. StandsTurn cs place u) shows.net.flying (turn_stands leads u what)) x is noted numbers.1 (step_long (comps t) packets leads) in
+        let y = tallied_turn t hops n us old.tallies.items new.tallies.items p.tallies ts u what new.net.net.flying place (subst (λ cs. StandsTurn cs place u) shows.net.flying (turn_stands leads u what)) x is noted numbers.1 (step_long (comps t) packets leads) in
         record {
           tables = same ∙ p.tables;
           hops_same = same_hops ∙ p.hops_same;
           shows = shows;
-          counted = y.counted ∙ sym inj;
           below = subst (λ m. All (λ (c : Copy). c.number < m) s'.net.flying) (sym inj) numbers.0;
-          before = subst (λ m. All (λ g. number_of g < m) (happenings (us ++ ts))) (sym inj) y.before;
-          tallied = y.tallied;
-          long = y.long;
+          tallies = subst (λ m. Tallied t hops m (us ++ ts) new.tallies.items) (sym inj) y;
           ready = subst (All (IsReady t)) (sym still) p.ready;
         }
 
-  pub plays_step : HasStepped place old new true
+  pub plays_step : HasStepped LeadsInOrder Plays left_in (λ (o : Ordered). o.net) place old new true
   plays_step t hops s us p =
       let a = subst (λ t'. (s' : Ordered) × (ts : List OrderedHappening) × LeadsInOrder t' s (Step place) s' ts × RepresentsInOrder new.net s' × TellsTurn told ts) p.tables (does s p.shows) in
       let u = a.4 in
@@ -201,29 +174,22 @@ module _ (old new : OrderedPlay) (place : ℕ) (told : Moved) (held : IsNetView 
       }
 
 -- what was told of has a tally, and stands at the place if it crossed a link
-module _ (old new : OrderedPlay) (place : ℕ) (told : Moved) (playing : IsPlaying old) (does : SimulatesInOrder old.net (Step place) new.net (TellsTurn told)) where
+module _ (old new : OrderedPlay) (place : ℕ) (told : Moved) (playing : IsPlaying Plays old) (does : SimulatesInOrder old.net (Step place) new.net (TellsTurn told)) where
   pub number_below : NumberIsBelow (length old.tallies.items) told
   number_below =
-      let s = playing.0 in
-      let p = playing.2 in
+      let s = playing.2 in
+      let p = playing.4 in
       let a = does s p.shows in
       let u = a.4 in
-      subst (λ m. NumberIsBelow (length old.tallies.items) m) (sym u.2) (subst (λ n. NumberIsBelow n (told_of u.0)) (sym p.counted) (turn_number (λ m. m < s.net.injected) p.below a.2 u.0 u.1))
+      subst (λ m. NumberIsBelow (length old.tallies.items) m) (sym u.2) (subst (λ n. NumberIsBelow n (told_of u.0)) (sym p.tallies.counted) (turn_number (λ m. m < s.net.injected) p.below a.2 u.0 u.1))
 
   pub moved_there : IsThere new.net.net.flying place told
   moved_there =
-      let s = playing.0 in
-      let a = does s playing.2.shows in
+      let a = does playing.2 playing.4.shows in
       let u = a.4 in
       subst (IsThere new.net.net.flying place) (sym u.2) (turn_there new.net.net.flying place u.0 (subst (λ cs. StandsTurn cs place u.0) a.3.net.flying (turn_stands a.2 u.0 u.1)))
 
-pub playing_of : (t : Tables) (hops : Bool) (s : Ordered) (us : List OrderedHappening) (v : OrderedPlay) → Plays t hops s us v → IsPlaying v
-playing_of t hops s us v p = (s, us, subst (λ t'. Plays t' v.hops s us v) (sym p.tables) (subst (λ h. Plays t h s us v) (sym p.hops_same) p))
-
--- ---- packets that wait
-pub left_count : (v : OrderedPlay) → length (left_in v) ≡ length v.waiting.items
-left_count v = length-map (reverse v.waiting.items) (λ (r : Ready). r.packet) ∙ length-reverse v.waiting.items
-
-pub inject_made : (old new : OrderedPlay) → (0 < length (left_in old)) → (b : Bool) → HasInjected old new b → HasInjected old new true
+-- a packet that waits is injected
+pub inject_made : (old new : OrderedPlay) → (0 < length (left_in old)) → (b : Bool) → HasInjected LeadsInOrder Plays left_in old new b → HasInjected LeadsInOrder Plays left_in old new true
 inject_made old new some true does = does
 inject_made old new some false none = λ t hops s us p. absurd (let e = ap length none in omega (arith, e, some))

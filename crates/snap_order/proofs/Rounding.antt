@@ -13,12 +13,12 @@ use Rattle.snap_net.proofs.Steps.{copy_shown}
 use Rattle.snap_faithful.proofs.Nodes.{IsTwo}
 use Rattle.snap_runs.specs.Plain.{entering}
 use Rattle.snap_runs.specs.Playing.{IsReady, packets_in}
-use Rattle.snap_rows.specs.Happenings.{number_of}
+use Rattle.snap_runs.specs.Runner.{HasInjected, IsPlaying}
 use Rattle.snap_runs.proofs.Steps.{rests-shown}
 use Rattle.snap_order.specs.declared.play.OrderedPlay.{OrderedPlay}
 use Rattle.snap_net.specs.declared.happened.Moved.{Moved}
-use Rattle.snap_order.specs.Ordered.{Ordered, OrderedHappening, begin, happenings}
-use Rattle.snap_order.specs.Playing.{HasInjected, IsPlaying, NumberIsBelow, Plays, left_in}
+use Rattle.snap_order.specs.Ordered.{Ordered, OrderedHappening, LeadsInOrder, begin, happenings}
+use Rattle.snap_order.specs.Playing.{NumberIsBelow, Plays, left_in}
 use Rattle.snap_order.specs.Reports.{IsRunReport}
 use Rattle.snap_order.specs.Rounding.{AreThere, HasRounded, IsPaced, IsRoundDone, NoteTurns, PlaysRounds, toil}
 use Rattle.snap_order.specs.Rounds.{GoesByRounds, injects, goes_on, rests, IsRound, IsRoundReport}
@@ -26,6 +26,7 @@ use Rattle.snap_order.specs.Shown.{IsOrderedNetView, OrderedNetView, RepresentsI
 use Rattle.snap_order.proofs.Placed.{IsLong, Placed, long_shown, placed_shown}
 use Rattle.snap_order.proofs.Rounds.{injects_one, round_injected, round_numbers, tallied_round, told_below}
 use Rattle.snap_order.proofs.Standing.{inject_pace, pace_first}
+use Rattle.snap_order.proofs.Tallied.{Tallied}
 use Rattle.snap_order.proofs.There.{StandFrom, round_stands, told_there}
 use Rattle.snap_order.proofs.Toiling.{round_falls, round_pace, toil_of, toil_shown}
 
@@ -39,21 +40,21 @@ module _ (old : OrderedPlay) (now : OrderedNetView) (told : List Moved) (does : 
   round_of t hops s us p = subst (λ t'. (s' : Ordered) × (es : List Event) × (ts : List OrderedHappening) × IsRound t' s es s' ts × RepresentsInOrder now s' × (told ≡ map told_of ts)) p.tables (does s p.shows)
 
   -- what was told of has a tally
-  pub told_all : IsPlaying old → All (NumberIsBelow (length old.tallies.items)) told
+  pub told_all : IsPlaying Plays old → All (NumberIsBelow (length old.tallies.items)) told
   told_all playing =
-      let p = playing.2 in
-      let a = round_of old.net.net.tables old.hops playing.0 playing.1 p in
-      subst (λ n. All (NumberIsBelow n) told) (sym p.counted) (subst (All (NumberIsBelow playing.0.net.injected)) (sym a.5) (told_below playing.0.net.injected p.below a.3))
+      let s = playing.2 in
+      let p = playing.4 in
+      let a = round_of playing.0 playing.1 s playing.3 p in
+      subst (λ n. All (NumberIsBelow n) told) (sym p.tallies.counted) (subst (All (NumberIsBelow s.net.injected)) (sym a.5) (told_below s.net.injected p.below a.3))
 
   -- where it left its copies
   stands_of : (t : Tables) (hops : Bool) (s : Ordered) (us : List OrderedHappening) (p : Plays t hops s us old) → StandFrom 0 now.net.flying (round_of t hops s us p).2
   stands_of t hops s us p = let a = round_of t hops s us p in subst (λ cs. StandFrom 0 cs a.2) a.4.net.flying (round_stands a.3)
 
-  pub there_all : IsPlaying old → AreThere 0 now.net.flying told
+  pub there_all : IsPlaying Plays old → AreThere 0 now.net.flying told
   there_all playing =
-      let t = old.net.net.tables in
-      let a = round_of t old.hops playing.0 playing.1 playing.2 in
-      subst (AreThere 0 now.net.flying) (sym a.5) (told_there a.2 0 now.net.flying (stands_of t old.hops playing.0 playing.1 playing.2))
+      let a = round_of playing.0 playing.1 playing.2 playing.3 playing.4 in
+      subst (AreThere 0 now.net.flying) (sym a.5) (told_there a.2 0 now.net.flying (stands_of playing.0 playing.1 playing.2 playing.3 playing.4))
 
   module _ (new : OrderedPlay) (is : new.net ≡ now) (held : IsNetView old.net.net) (ordered : IsOrderedNetView old.net) (notes : NoteTurns old.hops old.net.net.tables.switches now.net.flying 0 told old.tallies.items new.tallies.items)
       (same : now.net.tables ≡ old.net.net.tables) (same_hops : new.hops ≡ old.hops) (still : new.waiting.items ≡ old.waiting.items) where
@@ -68,7 +69,7 @@ module _ (old : OrderedPlay) (now : OrderedNetView) (told : List Moved) (does : 
         let inj : a.0.net.injected ≡ n = round_injected a.3 in
         let noted = subst (λ l. NoteTurns hops t.switches now.net.flying 0 l old.tallies.items new.tallies.items) a.5
         (subst (λ b. NoteTurns b t.switches now.net.flying 0 told old.tallies.items new.tallies.items) p.hops_same (subst (λ (t' : Tables). NoteTurns old.hops t'.switches now.net.flying 0 told old.tallies.items new.tallies.items) p.tables notes)) in
-        let y = tallied_round t two hops n now.net.flying us 0 old.tallies.items new.tallies.items a.3 p.below placed long (record { counted = p.counted; before = p.before; tallied = p.tallied; long = p.long }) (stands_of t hops s us p) noted in
+        let y = tallied_round t two hops n now.net.flying us 0 old.tallies.items new.tallies.items a.3 p.below placed long p.tallies (stands_of t hops s us p) noted in
         record {
           left = ap (λ ws. packets_in (reverse ws)) still;
           state = a.0;
@@ -79,11 +80,8 @@ module _ (old : OrderedPlay) (now : OrderedNetView) (told : List Moved) (does : 
             tables = ap (λ (v : OrderedNetView). v.net.tables) is ∙ same ∙ p.tables;
             hops_same = same_hops ∙ p.hops_same;
             shows = subst (λ v. RepresentsInOrder v a.0) (sym is) a.4;
-            counted = y.counted ∙ sym inj;
             below = subst (λ m. All (λ (c : Copy). c.number < m) a.0.net.flying) (sym inj) numbers.0;
-            before = subst (λ m. All (λ g. number_of g < m) (happenings (us ++ a.2))) (sym inj) y.before;
-            tallied = y.tallied;
-            long = y.long;
+            tallies = subst (λ m. Tallied t hops m (us ++ a.2) new.tallies.items) (sym inj) y;
             ready = subst (All (IsReady t)) (sym still) p.ready;
           };
         }
@@ -111,7 +109,7 @@ module _ (old mid : OrderedPlay) (held : IsNetView mid.net.net) (ordered : IsOrd
   placed_of t hops s us p = subst (λ t'. All (Placed t') s.net.flying) p.tables (placed_shown mid.net.net s.net held p.shows.net)
 
   -- a packet is injected, and then a round is made
-  pub rounds_more : (new : OrderedPlay) → HasInjected old mid true → HasRounded mid new → (t : Tables) (hops : Bool) (ks : List (List ℕ)) → PlaysRounds t hops ks old → PlaysRounds t hops ks new
+  pub rounds_more : (new : OrderedPlay) → HasInjected LeadsInOrder Plays left_in old mid true → HasRounded mid new → (t : Tables) (hops : Bool) (ks : List (List ℕ)) → PlaysRounds t hops ks old → PlaysRounds t hops ks new
   rounds_more new injected rounded t hops ks p =
       let a = injected t hops p.state p.turns p.plays in
       let b = rounded t hops a.state p.turns a.plays in
@@ -131,7 +129,7 @@ module _ (old mid : OrderedPlay) (held : IsNetView mid.net.net) (ordered : IsOrd
       }
 
 -- one packet fewer waits
-pub one_fewer : (old mid new : OrderedPlay) → HasInjected old mid true → HasRounded mid new → (t : Tables) (hops : Bool) (ks : List (List ℕ)) → PlaysRounds t hops ks old → length (left_in old) ≡ suc (length (left_in new))
+pub one_fewer : (old mid new : OrderedPlay) → HasInjected LeadsInOrder Plays left_in old mid true → HasRounded mid new → (t : Tables) (hops : Bool) (ks : List (List ℕ)) → PlaysRounds t hops ks old → length (left_in old) ≡ suc (length (left_in new))
 one_fewer old mid new injected rounded t hops ks p =
     let a = injected t hops p.state p.turns p.plays in
     let b = rounded t hops a.state p.turns a.plays in

@@ -14,7 +14,7 @@ use Rattle.snap_net.proofs.Steps.{frame_told, replaced_there}
 use Rattle.snap_faithful.proofs.Leaving.{split_up}
 use Rattle.snap_faithful.specs.InOrder.{Becomes, SentOn, Waiting, Forks}
 use Rattle.snap_runs.specs.Tallies.{IsThere}
-use Rattle.snap_runs.proofs.Playing.{is-there}
+use Rattle.snap_runs.proofs.Tallied.{is-there}
 use Rattle.snap_order.specs.Ordered.{Ordered, OrderedHappening, Happens, Stays, Waits, LeadsInOrder, left_by, moves, turn_of, visits, waits}
 use Rattle.snap_order.specs.Rounding.{AreThere, width}
 use Rattle.snap_order.specs.Rounds.{TakesFrom, ends, takes}

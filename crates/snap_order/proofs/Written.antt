@@ -1,5 +1,5 @@
--- What goes out of runs in order.
-use Rattle.std.proofs.Common.{◌≡◌, ℕ, ◌≤◌, Bool, List, Option, Ok, Err, inl, inr, sym, subst}
+-- What goes out of plain runs in order.
+use Rattle.std.proofs.Common.{◌≡◌, ℕ, Bool, List, Option, Ok, Err, inl, inr, sym, subst}
 use Rattle.std.specs.Prelude.{length, take}
 use Rattle.snap_core.specs.Arrays.{zero_arrays}
 use Rattle.snap_rows.specs.declared.tables.Tables.{Tables}
@@ -9,25 +9,12 @@ use Rattle.snap_report.specs.declared.fault.TraceFault.TheVariants as trace
 use Rattle.snap_report.specs.OneSwitch.{RunEnding}
 use Rattle.snap_report.specs.Spelled.{Stop, ended, refused}
 use Rattle.snap_runs.specs.declared.frames.Frames.TheVariants.{Numbered}
-use Rattle.snap_runs.specs.declared.ready.Ready.{Ready}
-use Rattle.snap_runs.specs.declared.schedule.ScheduleFault.{ScheduleFault}
 use Rattle.snap_runs.specs.Plain.{ArePlainBlocksBy, AreTraceBlocksBy, EndsAsReadBy, IsPlainReportBy, IsTraceBy, Writes, WritesTraceBy, entering, spelled_for}
-use Rattle.snap_runs.specs.Playing.{AreAll, packets_in}
-use Rattle.snap_runs.specs.Schedules.{lines_of}
-use Rattle.snap_runs.proofs.Scheduled.{schedule-refused, stopped}
-use Rattle.snap_order.specs.Obeying.{Stops}
 use Rattle.snap_order.specs.Ordered.{happenings}
 use Rattle.snap_order.specs.Reports.{AreBlocks, IsRunReport}
-use Rattle.snap_order.specs.Runs.{ArePlainBlocks, AreTraceBlocks, EndsAsRead, HasScheduleReport, IsPlainReport, IsTrace, RefusesLine, RefusesScheduleLine, WritesSchedule, WritesTrace}
+use Rattle.snap_order.specs.Runs.{ArePlainBlocks, AreTraceBlocks, EndsAsRead, IsPlainReport, IsTrace, WritesTrace}
 use Rattle.snap_order.proofs.PlainTurns.{plain_turns}
 
--- where a line can't be done, or something is left, nothing goes out
-pub schedule-stopped : (t : Tables) (hops : Bool) (file schedule : List ℕ) (rs : List Ready) → AreAll t file rs → (old : Option (List ℕ)) (text : List ℕ) → length text ≤ 67108864 → text ≡ schedule
-    → (e : ScheduleFault) → Stops t (packets_in rs) (lines_of text) e → WritesSchedule t hops file schedule (Err e) old old
-schedule-stopped t hops file schedule rs all old text few is e h =
-    schedule-refused (HasScheduleReport t hops file schedule) (RefusesScheduleLine t file schedule) t file schedule old e (stopped t file schedule rs all text few is (RefusesLine t) e h)
-
--- ---- the plain run
 -- what is written where other blocks and ends are told
 written_as : (Blocks Others : List ℕ → Type 0) (Ends Ended : RunEnding → List ℕ → Type 0) → ((text : List ℕ) → Blocks text → Others text) → ((ending : RunEnding) (text : List ℕ) → Ends ending text → Ended ending text)
     → (ending : RunEnding) (old new : Option (List ℕ)) → Writes Blocks Ends ending old new → Writes Others Ended ending old new

@@ -5,7 +5,6 @@ pub mod Shown
 pub mod Reports
 pub mod Runs
 pub mod Playing
-pub mod Obeying
 pub mod Serving
 pub mod PlainTurns
 pub mod OneSwitch

@@ -1,13 +1,12 @@
 //! A run in order: the network, what has happened to each packet, and the packets that wait.
 
-ghost use Rattle.std.specs.Prelude.{◌≡◌, ◌≤◌, ◌<◌, ◌+◌, ◌^◌, [], ℕ, List, Bool, IfOk, OnOk, length};
+ghost use Rattle.std.specs.Prelude.{◌≡◌, ◌≤◌, List, Bool, IfOk, OnOk, length};
 ghost use Rattle.std.specs.List.{All};
-ghost use Rattle.snap_core.specs.Arrays.{zero_arrays};
 ghost use Rattle.snap_rows.specs.declared.tables.Tables.{Tables};
 ghost use Rattle.snap_net.specs.Shown.{IsNetView};
-ghost use Rattle.snap_runs.specs.Playing.{IsReady, packets_in};
-ghost use Rattle.snap_order.specs.Ordered.{Ordered, OrderedHappening, begin, happenings};
-ghost use Rattle.snap_order.specs.Playing.{HasInjected, HasStepped, IsPlaying, NumberIsBelow, Plays, left_in};
+ghost use Rattle.snap_runs.specs.Runner.{IsPlaying};
+ghost use Rattle.snap_order.specs.Ordered.{Ordered, OrderedHappening, happenings};
+ghost use Rattle.snap_order.specs.Playing.{NumberIsBelow, Plays};
 ghost use Rattle.snap_order.specs.Rounding.{AreThere, HasRounded, NoteTurns, width};
 ghost use Rattle.snap_order.specs.Shown.{IsOrderedNetView};
 ghost use Rattle.snap_order.specs.Reports.{IsRunReport};
@@ -22,6 +21,7 @@ use snap_rows::valid::Valid;
 use snap_runs::frames::Frames;
 use snap_runs::play::{next_packet, note_step, put_blocks, reversed};
 use snap_runs::ready::Ready;
+use snap_runs::runner::Playable;
 use snap_runs::tail::put_end;
 use snap_runs::tally::Tally;
 use std::alloc::Global;
@@ -39,93 +39,6 @@ pub(crate) struct OrderedPlay {
 }
 
 impl OrderedPlay {
-    /// Before the first event.
-    pub(crate) fn new(
-        alloc: Global,
-        tables: Valid,
-        hops: bool,
-        packets: Vec<Ready>,
-    ) -> Result<OrderedPlay, NoMemory>
-        requires version { tables.version ≡ 2 }
-        requires ready { All (IsReady tables) packets.items }
-        ensures plays { IfOk result (Plays tables hops (begin tables zero_arrays) []) }
-        ensures left { IfOk result (λ play. left_in play ≡ packets_in packets.items) }
-        ensures injected { IfOk result (λ play. play.net.net.injected ≡ 0) }
-    {
-        let net = open_ordered(alloc, tables)?;
-        let waiting = reversed(packets);
-        Ok(OrderedPlay {
-            alloc,
-            net,
-            hops,
-            tallies: Vec::new(alloc),
-            waiting,
-        })
-    }
-
-    /// The number of packets that wait. Takes no memory.
-    pub(crate) fn left(&self) -> usize
-        ensures { result ≡ length self.now.waiting.items }
-    {
-        self.waiting.len()
-    }
-
-    /// The number of copies in flight. Takes no memory.
-    pub(crate) fn flying(&self) -> usize
-        ensures count { result ≡ length self.now.net.net.flying }
-        ensures held { IsNetView self.now.net.net }
-        ensures ordered { IsOrderedNetView self.now.net }
-    {
-        self.net.flying()
-    }
-
-    /// Injects the next packet. False: none is left.
-    pub(crate) fn inject(&mut self) -> Result<bool, NoMemory>
-        requires playing { IsPlaying self.old }
-        requires room { self.old.net.net.injected < 2 ^ 63 }
-        ensures injected { IfOk result (HasInjected self.old self.new) }
-        ensures count { OnOk result (self.new.net.net.injected ≤ self.old.net.net.injected + 1) }
-    {
-        let Some(ready) = next_packet(&mut self.waiting) else {
-            return Ok(false);
-        };
-        match self.net.inject(ready.port, ready.packet) {
-            Ok(_) => {}
-            // The port is one of the tables', so only memory can be short.
-            Err(_) => return Err(NoMemory),
-        }
-        let tally = Tally::new(self.alloc);
-        self.tallies.push(tally)?;
-        Ok(true)
-    }
-
-    /// Makes a step of the copy at a place. False: there is no such copy.
-    pub(crate) fn step(&mut self, place: u64) -> Result<bool, NoMemory>
-        requires playing { IsPlaying self.old }
-        ensures stepped { IfOk result (HasStepped place self.old self.new) }
-        ensures count { OnOk result (self.new.net.net.injected ≡ self.old.net.net.injected) }
-    {
-        let place = place as usize;
-        if place >= self.net.flying() {
-            return Ok(false);
-        }
-        let moved = match self.net.advance(place) {
-            Ok(moved) => moved,
-            // There is such a copy, so only memory can be short.
-            Err(_) => return Err(NoMemory),
-        };
-        let net = self.net.network();
-        note_step(
-            &mut self.tallies,
-            self.hops,
-            Frames::Numbered,
-            net,
-            place,
-            moved,
-        )?;
-        Ok(true)
-    }
-
     /// Makes the round of this number, by so many workers.
     pub(crate) fn round<R: Threads + Sync, G: Gate>(
         self,
@@ -134,7 +47,7 @@ impl OrderedPlay {
         workers: u16,
         gate: &G,
     ) -> Result<OrderedPlay, NoMemory>
-        requires playing { IsPlaying self }
+        requires playing { IsPlaying Plays self }
         requires workers { (1 ≤ workers) × (workers ≤ 64) }
         ensures rounded { IfOk result (HasRounded self) }
         ensures count { IfOk result (λ new. new.net.net.injected ≡ self.net.net.injected) }
@@ -166,16 +79,116 @@ impl OrderedPlay {
     }
 
     /// The report of the run. It takes the tallies.
-    pub(crate) fn report(&mut self) -> Result<Vec<u8>, NoMemory>
-        requires playing { IsPlaying self.old }
+    pub(crate) fn tell_all(&mut self) -> Result<Vec<u8>, NoMemory>
+        requires playing { IsPlaying Plays self.old }
         requires few { self.old.net.net.injected ≤ 67108864 }
         ensures { IfOk result (λ text. (t : Tables) (hops : Bool) (s : Ordered) (us : List OrderedHappening) → Plays t hops s us self.old → IsRunReport t hops s.net.injected s.net (happenings us) text.items) }
     {
-        let tallies = std::mem::replace(&mut self.tallies, Vec::new(self.alloc));
         let mut out = Vec::new(self.alloc);
-        put_blocks(&mut out, &self.net.tables().tables().fields, tallies)?;
+        put_blocks(
+            &mut out,
+            &self.net.tables().tables().fields,
+            &mut self.tallies,
+        )?;
         put_end(&mut out, self.net.network())?;
         Ok(out)
+    }
+}
+
+impl Playable for OrderedPlay {
+    ghost use Rattle.snap_core.specs.Arrays.{zero_arrays};
+    ghost use Rattle.snap_order.specs.Ordered.{LeadsInOrder, begin};
+    ghost use Rattle.snap_order.specs.Playing.{left_in};
+    ghost use Rattle.snap_order.specs.Runs.{IsScheduleReport};
+
+    ghost State = { Ordered };
+
+    ghost Told = { OrderedHappening };
+
+    ghost net = { λ s. s.net };
+
+    ghost leads = { LeadsInOrder };
+
+    ghost begin = { λ tables. begin tables zero_arrays };
+
+    ghost can_run = { λ tables. tables.version ≡ 2 };
+
+    ghost plays = { Plays };
+
+    ghost left = { left_in };
+
+    ghost count = { λ play. play.net.net.injected };
+
+    ghost reports = { IsScheduleReport };
+
+    fn open(
+        alloc: Global,
+        tables: Valid,
+        hops: bool,
+        packets: Vec<Ready>,
+    ) -> Result<Self, NoMemory> {
+        let net = open_ordered(alloc, tables)?;
+        let waiting = reversed(packets);
+        Ok(OrderedPlay {
+            alloc,
+            net,
+            hops,
+            tallies: Vec::new(alloc),
+            waiting,
+        })
+    }
+
+    fn left(&self) -> usize {
+        self.waiting.len()
+    }
+
+    fn flying(&self) -> usize
+        ensures shown { (t : Tables) (hops : Bool) (s : Ordered) (us : List OrderedHappening) → Plays t hops s us self.now → result ≡ length s.net.flying }
+        ensures count { result ≡ length self.now.net.net.flying }
+        ensures held { IsNetView self.now.net.net }
+        ensures ordered { IsOrderedNetView self.now.net }
+    {
+        self.net.flying()
+    }
+
+    fn inject(&mut self) -> Result<bool, NoMemory> {
+        let Some(ready) = next_packet(&mut self.waiting) else {
+            return Ok(false);
+        };
+        match self.net.inject(ready.port, ready.packet) {
+            Ok(_) => {}
+            // The port is one of the tables', so only memory can be short.
+            Err(_) => return Err(NoMemory),
+        }
+        let tally = Tally::new(self.alloc);
+        self.tallies.push(tally)?;
+        Ok(true)
+    }
+
+    fn step(&mut self, place: u64) -> Result<bool, NoMemory> {
+        let place = place as usize;
+        if place >= self.net.flying() {
+            return Ok(false);
+        }
+        let moved = match self.net.advance(place) {
+            Ok(moved) => moved,
+            // There is such a copy, so only memory can be short.
+            Err(_) => return Err(NoMemory),
+        };
+        let net = self.net.network();
+        note_step(
+            &mut self.tallies,
+            self.hops,
+            Frames::Numbered,
+            net,
+            place,
+            moved,
+        )?;
+        Ok(true)
+    }
+
+    fn report(&mut self) -> Result<Vec<u8>, NoMemory> {
+        self.tell_all()
     }
 }
 

@@ -17,6 +17,7 @@ use snap_io::{Shelf, Sink, write_whole};
 use snap_report::TraceFault;
 use snap_rows::valid::Valid;
 use snap_runs::ready::{Ready, read_packets};
+use snap_runs::runner::Playable;
 use std::alloc::Global;
 use std::thread::Threads;
 
@@ -78,10 +79,10 @@ fn worked<R: Threads + Sync, G: Gate>(
     requires few { length packets.items ≤ 1000000 }
     ensures { IfOk result (λ text. IsRoundReport tables hops (packets_in packets.items) text.items) }
 {
-    let play = OrderedPlay::new(alloc, tables, hops, packets)?;
+    let play = OrderedPlay::open(alloc, tables, hops, packets)?;
     let begun = begin_all(rt, play, workers, gate)?;
     let mut ended = end_all(rt, begun.play, begun.rounds, workers, gate)?;
-    ended.report()
+    ended.tell_all()
 }
 
 // A run, and how many rounds were made in it.

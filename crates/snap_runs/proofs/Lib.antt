@@ -16,6 +16,8 @@ pub mod Orders
 pub mod Spelling
 pub mod OneSchedule
 pub mod SequentialSchedule
+pub mod Running
+pub mod Tallied
 pub mod Playing
 pub mod Played
 pub mod Scheduled

@@ -1,50 +1,54 @@
--- What goes out for a packets file and a schedule.
-use Rattle.std.proofs.Common.{◌≡◌, ℕ, ◌≤◌, Bool, List, Option, Ok, Err, refl, sym, ap, subst}
-use Rattle.std.specs.Prelude.{Result, MatchResult, length}
+-- What goes out for a packets file and a schedule that were read.
+use Rattle.std.proofs.Common.{◌≡◌, ℕ, ◌≤◌, List, Option, Ok, Err, refl, sym, ap, subst}
+use Rattle.std.specs.Io.KnownBytes.{Appends}
+use Rattle.std.specs.Prelude.{IfSome, Result, length}
+use Rattle.snap_io.specs.Files.{Files, file_of}
+use Rattle.snap_io.specs.Sinks.{AppendsPart}
 use Rattle.snap_rows.specs.declared.tables.Tables.{Tables}
+use Rattle.snap_report.proofs.StepLemmas.{where_both_told}
 use Rattle.snap_report.specs.Spelled.{Spelled}
 use Rattle.snap_runs.specs.declared.ready.Ready.{Ready}
 use Rattle.snap_runs.specs.declared.schedule.ScheduleFault.{ScheduleFault}
 use Rattle.snap_runs.specs.declared.schedule.ScheduleFault.TheVariants.{Packets, Read, TooLong, Line, Write, NoMemory}
 use Rattle.snap_runs.specs.Plain.{spelled_for}
-use Rattle.snap_runs.specs.Playing.{AreAll, Refuses, RefusesBy, Stops, StopsBy, packets_in}
-use Rattle.snap_runs.specs.Schedules.{AreBothRead, HasScheduleReport, IsReadWhole, IsScheduleReport, RefusesLine, WritesScheduleBy, lines_of}
+use Rattle.snap_runs.specs.Playing.{AreAll, packets_in}
+use Rattle.snap_runs.specs.Runner.{StopsBy, WritesLines}
+use Rattle.snap_runs.specs.Schedules.{AreBothRead, lines_of}
 
-module _ (t : Tables) (file schedule : List ℕ) (rs : List Ready) (all : AreAll t file rs) where
-  whole : IsReadWhole t file
-  whole = ap (λ (s : Spelled). s.stop) all
-
-  packets : (spelled_for t file).packets ≡ packets_in rs
-  packets = ap (λ (s : Spelled). s.packets) all
-
-  module _ (text : List ℕ) (few : length text ≤ 67108864) (is : text ≡ schedule) where
+module _ (Reports : (ks lines : List (List ℕ)) → List ℕ → Type 0) (Refuses : (ks lines : List (List ℕ)) → ℕ → Type 0) (t : Tables) (rs : List Ready) (text : List ℕ) (few : length text ≤ 67108864) where
+  module _ (file schedule : List ℕ) (all : AreAll t file rs) (is : text ≡ schedule) where
     both : AreBothRead t file schedule
-    both = (whole, subst (λ x. length x ≤ 67108864) is few)
+    both = (ap (λ (s : Spelled). s.stop) all, subst (λ x. length x ≤ 67108864) is few)
 
-    -- a line can't be done, or something is left
-    pub stopped : (Lines : (ks lines : List (List ℕ)) → ℕ → Type 0) (e : ScheduleFault) → StopsBy (Lines (packets_in rs) (lines_of text)) e
-        → RefusesBy (λ line. AreBothRead t file schedule × Lines (spelled_for t file).packets (lines_of schedule) line) t file schedule e
-    stopped Lines (Line line) h = (both, subst (λ ks. Lines ks (lines_of schedule) line) (sym packets) (subst (λ x. Lines (packets_in rs) (lines_of x) line) is h))
-    stopped Lines NoMemory h = tt
-    stopped Lines (Packets fault) h = absurd h
-    stopped Lines Read h = absurd h
-    stopped Lines TooLong h = absurd h
-    stopped Lines Write h = absurd h
+    of_files : (Holds : (ks lines : List (List ℕ)) → Type 0) → Holds (packets_in rs) (lines_of text) → AreBothRead t file schedule × Holds (spelled_for t file).packets (lines_of schedule)
+    of_files Holds h = (both, subst (λ ks. Holds ks (lines_of schedule)) (sym (ap (λ (s : Spelled). s.packets) all)) (subst (λ x. Holds (packets_in rs) (lines_of x)) is h))
 
-    -- all lines were done, or not
-    pub schedule-played : (hops : Bool) {A : Type 0} (r : Result A ScheduleFault) (items : A → List ℕ)
-        → MatchResult r (λ x. IsScheduleReport t hops (packets_in rs) (lines_of text) (items x)) (Stops t (packets_in rs) (lines_of text))
-        → MatchResult r (λ x. HasScheduleReport t hops file schedule (items x)) (Refuses t file schedule)
-    schedule-played hops (Ok x) items h =
-        (both, subst (λ ks. IsScheduleReport t hops ks (lines_of schedule) (items x)) (sym packets) (subst (λ y. IsScheduleReport t hops (packets_in rs) (lines_of y) (items x)) is h))
-    schedule-played hops (Err e) items h = stopped (RefusesLine t) e h
+    stopped : (old : Option (List ℕ)) (e : ScheduleFault) → StopsBy (Refuses (packets_in rs) (lines_of text)) e → WritesLines Reports Refuses t file schedule (Err e) old old
+    stopped old (Line line) h = (refl, of_files (λ ks lines. Refuses ks lines line) h)
+    stopped old NoMemory h = refl
+    stopped old (Packets fault) h = absurd h
+    stopped old Read h = absurd h
+    stopped old TooLong h = absurd h
+    stopped old Write h = absurd h
 
--- where there is no report, nothing goes out
-pub schedule-refused : (HasReport : List ℕ → Type 0) (Refuses : ℕ → Type 0) (t : Tables) (file schedule : List ℕ) (old : Option (List ℕ)) (e : ScheduleFault)
-    → RefusesBy Refuses t file schedule e → WritesScheduleBy HasReport Refuses t file schedule (Err e) old old
-schedule-refused HasReport Refuses t file schedule old (Line line) h = (refl, h)
-schedule-refused HasReport Refuses t file schedule old NoMemory h = refl
-schedule-refused HasReport Refuses t file schedule old (Packets fault) h = (refl, h)
-schedule-refused HasReport Refuses t file schedule old Read h = (refl, h)
-schedule-refused HasReport Refuses t file schedule old TooLong h = (refl, h.0, h.1)
-schedule-refused HasReport Refuses t file schedule old Write h = absurd h
+  module _ (files files' : Option Files) (same : files' ≡ files) (packets schedule : List ℕ) (all : IfSome files (λ f. AreAll t (file_of f packets) rs)) (is : IfSome files' (λ f. text ≡ file_of f schedule)) (old : Option (List ℕ)) where
+    abbrev Writes : Result (Unit {0}) ScheduleFault → Option (List ℕ) → Type 0
+    Writes r new = IfSome files (λ f. WritesLines Reports Refuses t (file_of f packets) (file_of f schedule) r old new)
+
+    where_read : (Holds : Files → Type 0) → ((f : Files) → AreAll t (file_of f packets) rs → text ≡ file_of f schedule → Holds f) → IfSome files Holds
+    where_read Holds holds = where_both_told files _ _ Holds holds all (subst (λ o. IfSome o (λ f. text ≡ file_of f schedule)) same is)
+
+    -- nothing, where lines can't be done or something is left
+    pub nothing-written : (e : ScheduleFault) (x : List ℕ) → x ≡ text → StopsBy (Refuses (packets_in rs) (lines_of x)) e → Writes (Err e) old
+    nothing-written e x lent h = where_read _ (λ f all is. stopped (file_of f packets) (file_of f schedule) all is old e (subst (λ y. StopsBy (Refuses (packets_in rs) (lines_of y)) e) lent h))
+
+    -- else the report, or some first bytes of it
+    module _ (report : List ℕ) (x : List ℕ) (lent : x ≡ text) (told : Reports (packets_in rs) (lines_of x) report) (new : Option (List ℕ)) (y : List ℕ) (lent' : y ≡ report) where
+      whole : (f : Files) → AreAll t (file_of f packets) rs → text ≡ file_of f schedule → AreBothRead t (file_of f packets) (file_of f schedule) × Reports (spelled_for t (file_of f packets)).packets (lines_of (file_of f schedule)) report
+      whole f all is = of_files (file_of f packets) (file_of f schedule) all is (λ ks lines. Reports ks lines report) (subst (λ z. Reports (packets_in rs) (lines_of z) report) lent told)
+
+      pub all-written : Appends old new y → Writes (Ok tt) new
+      all-written out = where_read _ (λ f all is. (report, whole f all is, subst (Appends old new) lent' out))
+
+      pub some-written : AppendsPart old new y → Writes (Err Write) new
+      some-written out = where_read _ (λ f all is. (report, whole f all is, subst (AppendsPart old new) lent' out))

@@ -5,6 +5,7 @@ pub mod Tallies
 pub mod Reading
 pub mod Tracing
 pub mod Schedules
+pub mod Runner
 pub mod Playing
 pub mod Crossings
 pub mod Links

@@ -11,6 +11,7 @@ mod links;
 mod mover;
 pub mod play;
 pub mod ready;
+pub mod runner;
 pub mod schedule;
 pub mod shape;
 pub mod tail;

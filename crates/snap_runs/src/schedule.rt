@@ -1,19 +1,16 @@
 //! The run of tables over a packets file, in the order of a schedule.
 
-ghost use Rattle.std.specs.Prelude.{◌≡◌, ◌≤◌, ℕ, length, IfOk, IfSome, IsErrOf};
+ghost use Rattle.std.specs.Prelude.{◌≡◌, ◌≤◌, ℕ, IfSome, IsErrOf};
 ghost use Rattle.snap_io.specs.Causes.{NoneFell, Rose};
 ghost use Rattle.snap_io.specs.Files.{file_of};
-ghost use Rattle.std.specs.List.{All};
-ghost use Rattle.snap_runs.specs.Playing.{IsReady, packets_in, schedule_refusal, Reports, ReportsFiles, ReadsFiles};
-ghost use Rattle.snap_runs.specs.Schedules.{WritesSchedule, lines_of};
+ghost use Rattle.snap_runs.specs.Schedules.{WritesSchedule};
 ghost use Rattle.snap_runs.specs.declared.schedule.ScheduleFault.TheVariants as fault;
 
 use crate::play::Play;
-use crate::ready::{Ready, read_packets};
+use crate::runner::write_schedule;
 use snap_core::NoMemory;
-use snap_io::{ReadRefusal, Shelf, Sink, WriteFailed, read_whole, write_whole};
+use snap_io::{Shelf, Sink};
 use snap_report::TraceFault;
-use snap_report::switch::MOST_BYTES;
 use snap_rows::valid::Valid;
 use std::alloc::Global;
 use thiserror::Error;
@@ -46,26 +43,11 @@ pub enum ScheduleFault {
     NoMemory,
 }
 
-// The packets of a run, and the text of the schedule that orders it.
-#[derive(Drop)]
-struct Orders {
-    packets: Vec<Ready>,
-    text: Vec<u8>,
-}
-
 impl From<NoMemory> for ScheduleFault {
     ghost from_gives = { λ _ e. e ≡ fault.NoMemory };
 
     fn from(_: NoMemory) -> Self {
         ScheduleFault::NoMemory
-    }
-}
-
-impl From<WriteFailed> for ScheduleFault {
-    ghost from_gives = { λ _ e. e ≡ fault.Write };
-
-    fn from(_: WriteFailed) -> Self {
-        ScheduleFault::Write
     }
 }
 
@@ -101,91 +83,5 @@ pub fn scheduled<S: Shelf, K: Sink>(
     ensures later { NoneFell (S.faults shelf.old) (S.faults shelf.new) }
     ensures sink_later { K.faults sink.old ≤ K.faults sink.new }
 {
-    let report = match report_of(alloc, shelf, packets, schedule, tables, hops) {
-        Ok(report) => report,
-        Err(fault) => return Err(fault),
-    };
-    write_whole(sink, &report)?;
-    Ok(())
-}
-
-// The report of the network with these tables, over the packets file and the schedule with these names.
-fn report_of<S: Shelf>(
-    alloc: Global,
-    shelf: &mut S,
-    packets: &[u8],
-    schedule: &[u8],
-    tables: Valid,
-    hops: bool,
-) -> Result<Vec<u8>, ScheduleFault>
-    ensures report { IfSome (S.files shelf.old) (λ files. ReportsFiles tables hops (file_of files packets.now) (file_of files schedule.now) result) }
-    ensures no_write { IsErrOf result (ScheduleFault.Packets TraceFault.Write) → ⊥ }
-    ensures none_written { IsErrOf result ScheduleFault.Write → ⊥ }
-    ensures read_packets { IsErrOf result (ScheduleFault.Packets TraceFault.Read) → Rose (S.faults shelf.old packets.now) (S.faults shelf.new packets.now) }
-    ensures defined { (packet : ℕ) → IsErrOf result (ScheduleFault.Packets (TraceFault.Undefined packet)) → ⊥ }
-    ensures read { IsErrOf result ScheduleFault.Read → Rose (S.faults shelf.old schedule.now) (S.faults shelf.new schedule.now) }
-    ensures files { S.files shelf.new ≡ S.files shelf.old }
-    ensures later { NoneFell (S.faults shelf.old) (S.faults shelf.new) }
-{
-    let Orders { packets, text } = match read_both(alloc, shelf, packets, schedule, &tables) {
-        Ok(orders) => orders,
-        Err(fault) => return Err(fault),
-    };
-    played(alloc, tables, hops, packets, &text)
-}
-
-// The packets of the file and the text of the schedule with these names, the packets read first.
-fn read_both<S: Shelf>(
-    alloc: Global,
-    shelf: &mut S,
-    packets: &[u8],
-    schedule: &[u8],
-    tables: &Valid,
-) -> Result<Orders, ScheduleFault>
-    ensures both { IfSome (S.files shelf.old) (λ files. ReadsFiles tables.now (file_of files packets.now) (file_of files schedule.now) result) }
-    ensures ready { IfOk result (λ orders. All (IsReady tables.now) orders.packets.items) }
-    ensures few { IfOk result (λ orders. length orders.text.items ≤ 67108864) }
-    ensures no_write { IsErrOf result (ScheduleFault.Packets TraceFault.Write) → ⊥ }
-    ensures none_written { IsErrOf result ScheduleFault.Write → ⊥ }
-    ensures read_packets { IsErrOf result (ScheduleFault.Packets TraceFault.Read) → Rose (S.faults shelf.old packets.now) (S.faults shelf.new packets.now) }
-    ensures defined { (packet : ℕ) → IsErrOf result (ScheduleFault.Packets (TraceFault.Undefined packet)) → ⊥ }
-    ensures read { IsErrOf result ScheduleFault.Read → Rose (S.faults shelf.old schedule.now) (S.faults shelf.new schedule.now) }
-    ensures files { S.files shelf.new ≡ S.files shelf.old }
-    ensures later { NoneFell (S.faults shelf.old) (S.faults shelf.new) }
-{
-    let packets = match read_packets(alloc, shelf, packets, tables) {
-        Ok(packets) => packets,
-        Err(fault) => return Err(ScheduleFault::Packets { fault }),
-    };
-    match read_whole(alloc, shelf, schedule, MOST_BYTES) {
-        Ok(text) => Ok(Orders { packets, text }),
-        Err(refusal) => Err(refused(refusal)),
-    }
-}
-
-/// Why the schedule isn't read.
-pub fn refused(refusal: ReadRefusal) -> ScheduleFault
-    ensures { result ≡ schedule_refusal refusal }
-{
-    match refusal {
-        ReadRefusal::Failed => ScheduleFault::Read,
-        ReadRefusal::TooLong => ScheduleFault::TooLong,
-        ReadRefusal::NoMemory => ScheduleFault::NoMemory,
-    }
-}
-
-// The report of the run of these packets, in the order of a schedule.
-fn played(
-    alloc: Global,
-    tables: Valid,
-    hops: bool,
-    packets: Vec<Ready>,
-    schedule: &[u8],
-) -> Result<Vec<u8>, ScheduleFault>
-    requires ready { All (IsReady tables) packets.items }
-    requires few { length schedule.now ≤ 67108864 }
-    ensures { Reports tables hops (packets_in packets.items) (lines_of schedule.now) result }
-{
-    let mut play = Play::new(alloc, tables, hops, packets)?;
-    play.run_out(schedule)
+    write_schedule::<Play, S, K>(alloc, shelf, packets, schedule, tables, hops, sink)
 }

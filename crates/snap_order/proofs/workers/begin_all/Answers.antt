@@ -1,6 +1,6 @@
 use Rattle.std.proofs.Common.{◌<◌, length, arith}
 use Rattle.snap_order.specs.Playing.{left_in}
-use Rattle.snap_order.proofs.Playing.{inject_made, left_count, playing_of}
+use Rattle.snap_order.proofs.Playing.{inject_made}
 use Rattle.snap_order.proofs.Rounding.{one_fewer, rounds_more}
 use Rattle.snap_order.proofs.workers.begin_all.Goals as goal
 
@@ -9,7 +9,7 @@ inject-requires-clause-playing g c =
     let v = c.args.start in
     let f = c.requires.paced in
     let p = c.loop-play.invariant.ran v.net.net.tables v.hops f.0 f.1 in
-    playing_of v.net.net.tables v.hops p.state p.turns c.loop-play.play p.plays
+    (v.net.net.tables, v.hops, p.state, p.turns, p.plays)
 
 pub round-requires-clause-playing : goal.round-requires-clause-playing
 round-requires-clause-playing g c =
@@ -19,10 +19,9 @@ round-requires-clause-playing g c =
     let p = c.loop-play.invariant.ran v.net.net.tables v.hops f.0 f.1 in
     let left = c.left.ensures in
     let test = c.loop-play-test.true in
-    let same = left_count old in
-    let some : 0 < length (left_in old) = omega (arith, left, test, same) in
+    let some : 0 < length (left_in old) = omega (arith, left, test) in
     let a = inject_made old c.inject.new.self some c.in_ok-inject.field-0 c.in_ok-inject.ensures.injected v.net.net.tables v.hops p.state p.turns p.plays in
-    (λ κs h. playing_of v.net.net.tables v.hops a.state p.turns c.inject.new.self a.plays)
+    (λ κs h. (v.net.net.tables, v.hops, a.state, p.turns, a.plays))
 
 pub loop-play-smaller : goal.loop-play-smaller
 loop-play-smaller g c =
@@ -32,8 +31,7 @@ loop-play-smaller g c =
     let p = c.loop-play.invariant.ran v.net.net.tables v.hops f.0 f.1 in
     let left = c.left.ensures in
     let test = c.loop-play-test.true in
-    let same = left_count old in
-    let some : 0 < length (left_in old) = omega (arith, left, test, same) in
+    let some : 0 < length (left_in old) = omega (arith, left, test) in
     let fewer = one_fewer old c.inject.new.self c.in_ok-play.play (inject_made old c.inject.new.self some c.in_ok-inject.field-0 c.in_ok-inject.ensures.injected) c.in_ok-play.ensures.rounded v.net.net.tables v.hops f.0 p in
     omega (arith, fewer)
 
@@ -47,8 +45,7 @@ loop-play-preserved g c =
     let p = i.ran v.net.net.tables v.hops f.0 f.1 in
     let left = c.left.ensures in
     let test = c.loop-play-test.true in
-    let same = left_count old in
-    let some : 0 < length (left_in old) = omega (arith, left, test, same) in
+    let some : 0 < length (left_in old) = omega (arith, left, test) in
     let injected = inject_made old mid some c.in_ok-inject.field-0 c.in_ok-inject.ensures.injected in
     let fewer = one_fewer old mid c.in_ok-play.play injected c.in_ok-play.ensures.rounded v.net.net.tables v.hops f.0 p in
     let few = i.few in

@@ -1,5 +1,4 @@
 use Rattle.std.proofs.Common.{◌<◌, length, arith, ◌∙◌}
-use Rattle.snap_order.proofs.Playing.{playing_of}
 use Rattle.snap_order.proofs.Rounding.{paced_of, rounds_fall, rounds_on}
 use Rattle.snap_order.proofs.workers.end_all.Goals as goal
 
@@ -8,7 +7,7 @@ round-requires-clause-playing g c =
     let v = c.args.start in
     let f = c.requires.paced in
     let p = c.loop-rounds.invariant.ran v.net.net.tables v.hops f.0 f.1 in
-    λ κs h. playing_of v.net.net.tables v.hops p.state p.turns c.loop-rounds.play p.plays
+    λ κs h. (v.net.net.tables, v.hops, p.state, p.turns, p.plays)
 
 pub loop-rounds-smaller : goal.loop-rounds-smaller
 loop-rounds-smaller g c =

@@ -1,7 +1,7 @@
 use Rattle.std.proofs.Common.{◌<◌, ◌++◌, [], Result, Ok, Err, length, sym, ap, subst, ◌∙◌, append-nil}
 use Rattle.std.specs.Prelude.{OnOk, if◌then◌else◌}
 use Rattle.snap_runs.specs.Tallies.{line_after}
-use Rattle.snap_runs.proofs.Playing.{has-noted}
+use Rattle.snap_runs.proofs.Tallied.{has-noted}
 use Rattle.snap_runs.proofs.play.note_step.Goals as goal
 
 on_ok_all : {X Y A B C D : Type 0} (r : Result X Y) → OnOk r A → OnOk r B → OnOk r C → (A → B → C → D) → OnOk r D
