@@ -1,7 +1,7 @@
 //! Two diagrams gone down together, one to come after the other: a test of the second is asked in its turn where no leaf
 //! of the first sets or updates what it asks.
 
-ghost use Rattle.std.specs.Prelude.{◌≡◌, ◌<◌, ◌≤◌, ℕ, List, length, IfOk, MatchOption, ⊤};
+ghost use Rattle.std.specs.Prelude.{◌<◌, ◌≤◌, ℕ, List, length, IfOk, MatchOption, ⊤};
 ghost use Rattle.snap_diagrams.specs.Bounds.{Sizes, TestIn};
 ghost use Rattle.snap_diagrams.specs.Diagrams.{diagram};
 ghost use Rattle.snap_diagrams.specs.Picks.{IsWellFormedDiagram, IsDiagram, sizes};

@@ -1,8 +1,7 @@
 //! What a diagram's leaves set and update: a look before one part comes after another, so that what isn't touched is
 //! left as it is.
 
-ghost use Rattle.std.specs.Prelude.{◌≡◌, ◌<◌, ℕ, List, All, true, false, IfOk, IfSome, IsTrue, length};
-ghost use Rattle.snap_core.specs.Arrays.{has};
+ghost use Rattle.std.specs.Prelude.{◌≡◌, ◌<◌, List, All, true, false, IfOk, IfSome, IsTrue, length};
 ghost use Rattle.snap_core.specs.declared.policy.Update.{Update};
 ghost use Rattle.snap_diagrams.specs.declared.node.Node.{Node};
 ghost use Rattle.snap_diagrams.specs.declared.leaf.Leaf.{Leaf};

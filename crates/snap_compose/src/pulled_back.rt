@@ -1,13 +1,13 @@
 //! Values, tests and updates behind an out, in front of it.
 
-ghost use Rattle.std.specs.Prelude.{◌≡◌, ◌==◌, ◌^◌, ◌<◌, ℕ, map, IfOk};
+ghost use Rattle.std.specs.Prelude.{◌≡◌, ◌==◌, ◌<◌, map, IfOk};
 ghost use Rattle.snap_core.specs.Arrays.{value_of};
 ghost use Rattle.snap_core.specs.Fits.{AtomFits};
 ghost use Rattle.snap_core.specs.declared.policy.Test.TheVariants as test;
 ghost use Rattle.snap_core.specs.Tests.{OutFits, TermFits, after_out, passes, term_value};
 ghost use Rattle.snap_context.specs.Classes.{shift};
 ghost use Rattle.snap_diagrams.specs.Bounds.{Sizes, TestIn};
-ghost use Rattle.snap_compose.specs.PulledBack.{atom_after, early_atom, early_op, early_term, early_update, term_of, IsEarly};
+ghost use Rattle.snap_compose.specs.PulledBack.{atom_after, early_atom, early_term, early_update, term_of, IsEarly};
 
 use snap_core::NoMemory;
 use snap_core::lists::{Atoms, Out};

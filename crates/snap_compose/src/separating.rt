@@ -1,6 +1,6 @@
 //! Leaves whose outs give different packets.
 
-ghost use Rattle.std.specs.Prelude.{◌≡◌, ◌<◌, ◌≤◌, ◌++◌, [], ◌∷◌, ℕ, length, All, IfOk, OnOk};
+ghost use Rattle.std.specs.Prelude.{◌≡◌, ◌<◌, ◌≤◌, ◌++◌, [], ◌∷◌, length, All, IfOk, OnOk};
 ghost use Rattle.snap_core.specs.Tests.{OutFits};
 ghost use Rattle.snap_diagrams.specs.Arena.{ExtendsArena};
 ghost use Rattle.snap_diagrams.specs.Memos.{Remembers};
@@ -14,7 +14,7 @@ ghost use Rattle.snap_compose.specs.Substituted.{OnStores};
 ghost use Rattle.snap_compose.specs.Splits.{IsSplit};
 ghost use Rattle.snap_compose.specs.Sequence.{IsSettledLeaf};
 ghost use Rattle.snap_compose.specs.ChainMemoed.{WiderFor, IsAskedWider};
-ghost use Rattle.snap_compose.specs.Separating.{equal_below, any_equal, more_outs, IsWider, IsGoOf};
+ghost use Rattle.snap_compose.specs.Separating.{equal_below, any_equal, IsWider, IsGoOf};
 
 use crate::pending_updates::split;
 use crate::pulled_back::{as_term, atom_after, same_value};

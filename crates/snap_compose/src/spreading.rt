@@ -1,6 +1,6 @@
 //! A leaf, and then a diagram from each packet that it gives.
 
-ghost use Rattle.std.specs.Prelude.{◌≡◌, ◌<◌, ℕ, length, All, IfOk, IsTrue, OnOk};
+ghost use Rattle.std.specs.Prelude.{◌≡◌, ◌<◌, length, All, IfOk, IsTrue, OnOk};
 ghost use Rattle.snap_core.specs.Tests.{OutFits};
 ghost use Rattle.snap_diagrams.specs.Arena.{ExtendsArena};
 ghost use Rattle.snap_diagrams.specs.Memos.{Remembers};

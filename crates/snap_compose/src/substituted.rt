@@ -1,6 +1,6 @@
 //! A diagram behind an out and updates.
 
-ghost use Rattle.std.specs.Prelude.{◌≡◌, ◌<◌, ◌≤◌, [], ℕ, List, length, map, All, IfOk, IsTrue, OnOk};
+ghost use Rattle.std.specs.Prelude.{◌≡◌, ◌<◌, [], ℕ, List, length, map, All, IfOk, IsTrue, OnOk};
 ghost use Rattle.snap_core.specs.Arrays.{updates};
 ghost use Rattle.snap_core.specs.Tests.{OutFits, after_out, results};
 ghost use Rattle.snap_diagrams.specs.Arena.{ExtendsArena};

@@ -1,5 +1,5 @@
 -- What a list with one more in front contains.
-use Rattle.std.proofs.Common.{ℕ, suc, ◌<◌, List, ◌∷◌, length, refl, arith}
+use Rattle.std.proofs.Common.{suc, ◌<◌, List, ◌∷◌, length, refl, arith}
 use Rattle.std.specs.List.{Contains}
 
 pub Contains-here : {X : Type 0} (x : X) (xs : List X) → Contains (x ∷ xs) x

@@ -1,6 +1,6 @@
 -- What the answers of an order tell.
 use Rattle.std.proofs.Common.{◌≡◌, ℕ, ◌<◌, true, nat_cmp, is_eq, is_lt, Ordering, Less, Equal, Greater, refl, sym}
-use Rattle.std.specs.Ordering.{match_ordering, ordering_then}
+use Rattle.std.specs.Ordering.{ordering_then}
 use Rattle.std.specs.Cmp.{nat_cmp_is}
 use Rattle.std.proofs.lemmas.Bool.{false≢true}
 use Rattle.std.proofs.lemmas.Cmp.{by_ranked, ranked}

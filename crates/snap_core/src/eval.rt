@@ -1,12 +1,12 @@
 //! Evaluation.
 
-ghost use Rattle.std.specs.Prelude.{◌≡◌, ◌<◌, ◌≤◌, ◌^◌, IfOk, IfErr, if◌then◌else◌, option_map, true, false, None, Some, Err, max, length, bit_or, All};
+ghost use Rattle.std.specs.Prelude.{◌≡◌, ◌<◌, ◌≤◌, ◌^◌, IfOk, IfErr, if◌then◌else◌, true, false, None, Some, Err, max, length, bit_or, All};
 ghost use Rattle.snap_core.specs.Arrays.{Arrays, place_at};
 ghost use Rattle.snap_core.specs.Cells.{arrays_of};
 ghost use Rattle.snap_core.specs.Fits.{AtomFits, IndexFits, PredFits, PolFits, UpdateFits, VarsBelow};
 ghost use Rattle.snap_core.specs.declared.policy.Pol.{size-Pol};
 ghost use Rattle.snap_core.specs.declared.policy.Pol.TheVariants.{Filter, Set, Change};
-ghost use Rattle.snap_core.specs.Meaning.{truth, vars_of, eval, logged};
+ghost use Rattle.snap_core.specs.Meaning.{truth, vars_of, eval};
 ghost use Rattle.snap_core.specs.declared.run.Logs.{Logs as LogsData};
 ghost use Rattle.snap_core.specs.Outcomes.{meaning_of};
 ghost use Rattle.snap_core.specs.Packets.{AllLong, listed, no_packets, with_packets};

@@ -3,7 +3,7 @@
 ghost use Rattle.std.specs.Prelude.{◌≡◌, IfOk, Some, None, Err, List, ℕ};
 ghost use Rattle.snap_core.specs.Arrays.{Arrays};
 ghost use Rattle.snap_core.specs.Packets.{no_packets};
-ghost use Rattle.snap_core.specs.Meaning.{Meaning, clash, logged};
+ghost use Rattle.snap_core.specs.Meaning.{clash, logged};
 ghost use Rattle.snap_core.specs.Runs.{after_both, begun_behind, flown, meaning_with};
 
 use crate::NoMemory;

@@ -1,6 +1,6 @@
 //! The text of a summary.
 
-ghost use Rattle.std.specs.Prelude.{◌≡◌, ◌++◌, ◌^◌, ◌<◌, IfOk, OnOk};
+ghost use Rattle.std.specs.Prelude.{◌≡◌, ◌++◌, ◌<◌, IfOk, OnOk};
 ghost use Rattle.snap_demo.specs.Summary.{line, part_in, text_of, total_in};
 
 use crate::counts::PacketCounts;

@@ -1,6 +1,6 @@
 //! Groups of tied variables.
 
-ghost use Rattle.std.specs.Prelude.{◌≡◌, ◌==◌, ◌<◌, ◌≤◌, ℕ, All, length, slice_index};
+ghost use Rattle.std.specs.Prelude.{◌≡◌, ◌==◌, ◌<◌, ◌≤◌, All, length, slice_index};
 ghost use Rattle.snap_dep.specs.Ranks.{rank_of};
 ghost use Rattle.snap_dep.specs.Relations.{IsSetOf};
 

@@ -1,6 +1,6 @@
 //! The variables that a policy uses, and the dependencies between them.
 
-ghost use Rattle.std.specs.Prelude.{◌≡◌, ◌≤◌, ◌↔◌, ◌⊎◌, ℕ, IsTrue, length, bit_or};
+ghost use Rattle.std.specs.Prelude.{◌≡◌, ◌≤◌, ◌↔◌, ◌⊎◌, ℕ, length, bit_or};
 ghost use Rattle.snap_core.specs.Meaning.{vars_of};
 ghost use Rattle.snap_core.specs.Fits.{VarsBelow};
 ghost use Rattle.snap_dep.specs.Dependencies.{Reads, Writes, Depends, UsesBelow};

@@ -1,6 +1,6 @@
 //! Whether tests and leaves lie within the bounds that groups and a context tell.
 
-ghost use Rattle.std.specs.Prelude.{◌↔◌, ◌<◌, ◌≤◌, ◌^◌, All, IsTrue, length};
+ghost use Rattle.std.specs.Prelude.{◌↔◌, ◌<◌, ◌≤◌, ◌^◌, All, IsTrue};
 ghost use Rattle.snap_core.specs.Fits.{IndexFits};
 ghost use Rattle.snap_core.specs.Tests.{OutFits, TermFits, PartFits};
 ghost use Rattle.snap_core.specs.Ranges.{TermInRange};

@@ -1,15 +1,15 @@
 //! Which diagrams nothing can be dead in, whatever comes before them.
 
-ghost use Rattle.std.specs.Prelude.{◌≡◌, ◌↔◌, ◌<◌, ◌≤◌, ℕ, All, IfOk, IsTrue, length, true};
+ghost use Rattle.std.specs.Prelude.{◌↔◌, ◌<◌, All, IfOk, IsTrue, length, true};
 ghost use Rattle.snap_context.specs.declared.fact.Fact.{Fact};
 ghost use Rattle.snap_diagrams.specs.Contexts.{Met};
 ghost use Rattle.snap_diagrams.specs.Diagrams.{diagram};
 ghost use Rattle.snap_diagrams.specs.Forgotten.{IsPast};
-ghost use Rattle.snap_diagrams.specs.Order.{IsRanked, test_cmp};
+ghost use Rattle.snap_diagrams.specs.Order.{IsRanked};
 ghost use Rattle.snap_diagrams.specs.Picks.{IsWellFormedDiagram};
 ghost use Rattle.snap_diagrams.specs.Places.{ComesBefore};
 ghost use Rattle.snap_diagrams.specs.Pruned.{IsLive};
-ghost use Rattle.snap_diagrams.specs.Quiet.{BeginsElsewhere, IsClear, IsFine, IsMarked, IsQuiet, SameSubject, StandsBefore};
+ghost use Rattle.snap_diagrams.specs.Quiet.{BeginsElsewhere, IsClear, IsMarked, IsQuiet, SameSubject, StandsBefore};
 
 use crate::equal::same_index;
 use crate::leaf::Leaf;

@@ -1,6 +1,6 @@
 //! What a diagram tests: a look before pruning, so that what can't be dead is left as it is.
 
-ghost use Rattle.std.specs.Prelude.{◌≡◌, ◌↔◌, ◌<◌, ◌≤◌, All, IfOk, IsTrue, length, slice_get};
+ghost use Rattle.std.specs.Prelude.{◌↔◌, ◌<◌, All, IfOk, IsTrue, length, slice_get};
 ghost use Rattle.snap_diagrams.specs.Quiet.{AtomIsFree, IndexIsFine, IsClear, IsFine, SeenClear};
 ghost use Rattle.snap_core.specs.Terms.{IsNumber};
 

@@ -1,6 +1,6 @@
 //! Whether leaves do the same.
 
-ghost use Rattle.std.specs.Prelude.{◌≡◌, ◌≤◌, MatchResult};
+ghost use Rattle.std.specs.Prelude.{◌≤◌, MatchResult};
 ghost use Rattle.snap_equal.specs.Inputs.{IsLeaf, space};
 ghost use Rattle.snap_equal.specs.Leaves.{LeavesDoSame};
 ghost use Rattle.snap_equal.specs.Told.{IsStop, Decides};

@@ -1,7 +1,7 @@
 //! Updates whose places are surely written again, whatever they did.
 
 ghost use Rattle.std.specs.Prelude.{◌≡◌, ℕ, All, IfOk, List, length, true};
-ghost use Rattle.snap_core.specs.Arrays.{Arrays, number_after, place_at, update, updates};
+ghost use Rattle.snap_core.specs.Arrays.{Arrays, number_after, update, updates};
 ghost use Rattle.snap_equal.specs.Inputs.{AreOf, IsUpdate};
 ghost use Rattle.snap_equal.specs.Told.{On};
 

@@ -5,7 +5,7 @@ ghost use Rattle.snap_diagrams.specs.Diagrams.{diagram};
 ghost use Rattle.snap_equal.specs.Asked.{AreAsked};
 ghost use Rattle.snap_equal.specs.Inputs.{IsLeaf, IsTest, space};
 ghost use Rattle.snap_equal.specs.Leaves.{AreRemembered, DiagramsDoSame, LeavesDoSame};
-ghost use Rattle.snap_equal.specs.Told.{AreBelow, On, Where};
+ghost use Rattle.snap_equal.specs.Told.{On, Where};
 
 use crate::agreeing::agree;
 use crate::keys::pair_key;

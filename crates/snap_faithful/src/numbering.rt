@@ -1,8 +1,8 @@
 //! Numbers for the nodes of a diagram.
 
-ghost use Rattle.std.specs.Prelude.{◌≡◌, ◌<◌, ◌+◌, IfOk, OnOk, length, slice_index};
+ghost use Rattle.std.specs.Prelude.{◌≡◌, ◌<◌, IfOk, length, slice_index};
 ghost use Rattle.snap_diagrams.specs.Arena.{IsArena, IsLower};
-ghost use Rattle.snap_faithful.specs.Marked.{Marks, with_ways};
+ghost use Rattle.snap_faithful.specs.Marked.{with_ways};
 ghost use Rattle.snap_faithful.specs.Shown.{IsNumbering};
 
 use snap_core::NoMemory;

@@ -1,6 +1,6 @@
 //! Reading frames.
 
-ghost use Rattle.std.specs.Prelude.{◌≡◌, ◌+◌, ◌++◌, ◌∷◌, ◌*◌, ◌<◌, ◌≤◌, ◌^◌, false, true, IfOk, IfErr, take, drop, length};
+ghost use Rattle.std.specs.Prelude.{◌≡◌, ◌+◌, ◌∷◌, ◌*◌, ◌<◌, true, IfOk, IfErr, length};
 ghost use Rattle.std.specs.Int.{to_be_bytes};
 ghost use mir.Syntax.{w16, w32, w64};
 ghost use Rattle.snap_net.specs.Frames.{head_bytes, head_length, packet_bytes, frame, is_tag};

@@ -1,6 +1,6 @@
 //! The ordered network.
 
-ghost use Rattle.std.specs.Prelude.{◌≡◌, ◌≢◌, ◌≤◌, ◌<◌, ◌+◌, ◌^◌, ℕ, List, Some, None, IfOk, IfErr, OnOk, OnErr, IsSome, IsTrue, get_or, length, slice_index};
+ghost use Rattle.std.specs.Prelude.{◌≡◌, ◌≢◌, ◌≤◌, ◌<◌, ◌+◌, ◌^◌, ℕ, List, None, IfOk, IfErr, OnOk, OnErr, IsSome, IsTrue, get_or, length, slice_index};
 ghost use Rattle.snap_core.specs.Arrays.{zero_arrays};
 ghost use Rattle.snap_core.specs.Listing.{IsListing};
 ghost use Rattle.snap_core.specs.declared.program.Program.{Program};

@@ -1,6 +1,6 @@
 //! What the workers of a round made, put together in the order of the copies.
 
-ghost use Rattle.std.specs.Prelude.{◌≡◌, ◌≢◌, ◌≤◌, ◌<◌, ◌%◌, ℕ, List, None, Some, [], ◌∷◌, IfOk, IfSome, false, true, get_or, length, map};
+ghost use Rattle.std.specs.Prelude.{◌≡◌, ◌≢◌, ◌<◌, ◌%◌, ℕ, List, None, Some, ◌∷◌, IfOk, IfSome, false, true, get_or, length, map};
 ghost use Rattle.snap_rows.specs.Entries.{rank_at, ranks};
 ghost use Rattle.snap_net.specs.declared.flying.Flying.{Flying};
 ghost use Rattle.snap_order.specs.declared.job.Job.{Job};

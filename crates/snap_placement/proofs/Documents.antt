@@ -12,7 +12,7 @@ use Rattle.std.proofs.lemmas.List.{drop_more, map-append}
 use Rattle.std.proofs.lemmas.List.Elements.{All-cons, All-from_recursion, All-nil, All-weaker}
 use Rattle.std.proofs.lemmas.Option.{same_Some}
 use Rattle.toml.specs.declared.value.Value.{Value}
-use Rattle.toml.specs.Data.{Data, Items, string, integer, float, boolean, datetime, array, table, as_array}
+use Rattle.toml.specs.Data.{Data, Items, array, as_array}
 use Rattle.toml.specs.View.{items_view, members_view, view}
 use Rattle.snap_core.specs.Names.{is_name}
 use Rattle.snap_topology.specs.Shape.{with_first}

@@ -11,7 +11,7 @@ use Rattle.std.proofs.lemmas.Option.{same_Some}
 use Rattle.toml.specs.declared.value.Value.{Value}
 use Rattle.toml.specs.View.{members_view, view}
 use Rattle.snap_topology.specs.Shape.{name_in, with_first}
-use Rattle.snap_placement.specs.Shape.{PlaceFault, NotToml, Shape, NoVariable, Missing, NoSwitch, Apart, NoMemory, entries_in, entries_of, entry_of}
+use Rattle.snap_placement.specs.Shape.{PlaceFault, NotToml, Shape, NoVariable, NoMemory, entries_in, entries_of, entry_of}
 use Rattle.snap_placement.specs.Answer.{is_unknown, no_variable, missing, no_switch, owners, SwitchThen, MissingThen, VariableThen, IsAnswerFor}
 use Rattle.snap_placement.specs.Order.{InByteOrder, IsLeast, TellsLeast, TellsLeastOf}
 use Rattle.snap_topology.specs.Spells.{document}

@@ -23,7 +23,7 @@ use Rattle.snap_topology.proofs.Walking.{distance-same}
 use Rattle.snap_placement.specs.declared.best.Best.{Best}
 use Rattle.snap_placement.specs.declared.demand.Demand.{Demand}
 use Rattle.snap_placement.specs.declared.demand.DemandFault.{DemandFault}
-use Rattle.snap_placement.specs.declared.demand.DemandFault.TheVariants.{NotToml, Shape, Limit, NoPort, NoVariable, NoSwitch, Nowhere, NoMemory}
+use Rattle.snap_placement.specs.declared.demand.DemandFault.TheVariants.{Nowhere}
 use Rattle.snap_placement.specs.declared.demand.Flow.{Flow}
 use Rattle.snap_placement.specs.declared.trips.End.TheVariants.{From, To}
 use Rattle.snap_placement.specs.declared.trips.Trip.{Trip}

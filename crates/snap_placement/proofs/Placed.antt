@@ -5,7 +5,7 @@ use Rattle.std.proofs.lemmas.List.{length-map}
 use Rattle.std.proofs.lemmas.List.Elements.{All-nil, All-cons}
 use Rattle.std.proofs.lemmas.Bool.{not-false}
 use Rattle.snap_topology.proofs.Forms.{number_of-below}
-use Rattle.snap_placement.specs.Shape.{PlaceFault, NotToml, Shape, NoVariable, Missing, NoSwitch, Apart, NoMemory}
+use Rattle.snap_placement.specs.Shape.{PlaceFault, Apart}
 use Rattle.snap_placement.specs.Answer.{place_of, is_at_switch, owner_at, no_variable, missing, no_switch, owners, OwnersThen, SwitchThen, MissingThen, VariableThen, IsAnswerFor, ShapeThen}
 use Rattle.snap_placement.specs.Together.{IsTogether, IsFirstApart, TellsApart}
 

@@ -1,11 +1,10 @@
 //! The best way on from each switch, rank by rank from the last.
 
-ghost use Rattle.std.specs.Prelude.{◌≡◌, ◌≤◌, ◌+◌, ◌*◌, ◌<◌, ◌^◌, ◌∷◌, ℕ, All, Contains, IfOk, [], drop, length, map, slice_index};
+ghost use Rattle.std.specs.Prelude.{◌≡◌, ◌≤◌, ◌+◌, ◌*◌, ◌<◌, ◌^◌, ℕ, All, Contains, IfOk, drop, length, slice_index};
 ghost use Rattle.std.specs.List.{sum_by};
 ghost use Rattle.snap_topology.specs.Tables.{distance_of, switch_count};
-ghost use Rattle.snap_placement.specs.Costs.{cost_from};
 ghost use Rattle.snap_placement.specs.Placements.{places_of};
-ghost use Rattle.snap_placement.specs.Steps.{AreNear, IsCheapest, IsPlan, IsRow, IsStage, choices, cost_over, is_before, is_cheaper, leg, over, path};
+ghost use Rattle.snap_placement.specs.Steps.{AreNear, IsCheapest, IsPlan, IsStage, choices, cost_over, is_before, is_cheaper, over};
 
 use crate::demand::{Allowed, Switches};
 use crate::price::end_costs;

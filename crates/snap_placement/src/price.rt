@@ -1,6 +1,6 @@
 //! What trips cost up to the first group and after the last one, summed by switch.
 
-ghost use Rattle.std.specs.Prelude.{◌≡◌, ◌≤◌, ◌*◌, ◌<◌, ◌^◌, ℕ, All, IfOk, [], length, map, slice_index};
+ghost use Rattle.std.specs.Prelude.{◌≡◌, ◌≤◌, ◌*◌, ◌<◌, ◌^◌, ℕ, All, IfOk, [], length, slice_index};
 ghost use Rattle.std.specs.List.{sum_by};
 ghost use Rattle.snap_topology.specs.Tables.{distance_of, switch_count};
 ghost use Rattle.snap_placement.specs.Costs.{cost_of};

@@ -1,6 +1,6 @@
 //! The search for a placement of least cost.
 
-ghost use Rattle.std.specs.Prelude.{◌≡◌, ◌≤◌, ◌<◌, ◌^◌, ◌∷◌, ℕ, All, IfOk, [], length, map, slice_index};
+ghost use Rattle.std.specs.Prelude.{◌≡◌, ◌≤◌, ◌<◌, ◌^◌, ◌∷◌, ℕ, All, IfOk, length, slice_index};
 ghost use Rattle.snap_dep.specs.Ranks.{rank_of};
 ghost use Rattle.snap_topology.specs.Form.{IsWellFormed};
 ghost use Rattle.snap_topology.specs.Tables.{AreRoutes, distance_of, switch_count};

@@ -1,12 +1,12 @@
 //! Flows between switches.
 
-ghost use Rattle.std.specs.Prelude.{◌≡◌, ◌≤◌, ◌*◌, ◌<◌, ◌^◌, ◌++◌, All, IfOk, IfSome, OnOk, [], ◌∷◌, Some, length, map};
+ghost use Rattle.std.specs.Prelude.{◌≡◌, ◌≤◌, ◌*◌, ◌<◌, ◌^◌, IfOk, IfSome, Some, length, map};
 ghost use Rattle.std.specs.List.{sum_by};
 ghost use Rattle.std.specs.List.Sorted.{IsStrictlySortedBy};
 ghost use Rattle.std.specs.Ordering.{nat_cmp};
 ghost use Rattle.snap_core.specs.declared.ports.PortAt.{PortAt};
 ghost use Rattle.snap_core.specs.Ports.{port_in};
-ghost use Rattle.snap_placement.specs.Costs.{switch_of, trip_of};
+ghost use Rattle.snap_placement.specs.Costs.{trip_of};
 ghost use Rattle.snap_placement.specs.Steps.{end_of};
 
 use crate::demand::Flow;

@@ -3,7 +3,7 @@
 //! Want of memory may end a run only before the first byte of the end goes out. So nothing here needs memory: where
 //! the text that waits can't grow, it is written.
 
-ghost use Rattle.std.specs.Prelude.{◌++◌, [], decimal, map};
+ghost use Rattle.std.specs.Prelude.{◌++◌, decimal, map};
 ghost use Rattle.std.specs.List.{flat_map};
 ghost use Rattle.snap_core.specs.Listing.{entry_of};
 ghost use Rattle.snap_io.specs.Causes.{HasCause};

@@ -1,7 +1,6 @@
 //! Chains of tests of one component, each taken in one step.
 
-ghost use Rattle.std.specs.Prelude.{◌≡◌, ◌<◌, ℕ, Some, IfOk, OnOk, IfSome, length, slice_index, unwrap_or};
-ghost use Rattle.snap_core.specs.Cases.{case_at};
+ghost use Rattle.std.specs.Prelude.{◌≡◌, ◌<◌, Some, IfOk, OnOk, IfSome, length, unwrap_or};
 ghost use Rattle.snap_core.specs.declared.policy.Test.TheVariants.{Value};
 ghost use Rattle.snap_rows.specs.declared.tables.Row.TheVariants.{Field};
 ghost use Rattle.snap_rows.specs.declared.tables.Tables.{Tables};

@@ -1,6 +1,6 @@
 //! A network that takes packets one after another, by the plain schedule.
 
-ghost use Rattle.std.specs.Prelude.{◌≡◌, ◌≢◌, ◌≤◌, ◌+◌, ◌<◌, ◌^◌, [], ℕ, None, IfErr, IfOk, IsSome, OnOk, length, slice_index};
+ghost use Rattle.std.specs.Prelude.{◌≡◌, ◌≢◌, ◌≤◌, ◌+◌, ◌<◌, ◌^◌, [], None, IfErr, IfOk, IsSome, OnOk, length, slice_index};
 ghost use Rattle.std.specs.List.{All};
 ghost use Rattle.snap_core.specs.Arrays.{zero_arrays};
 ghost use Rattle.snap_rows.specs.Entries.{port_at};

@@ -1,5 +1,5 @@
 -- A text, line by line.
-use Rattle.std.proofs.Common.{◌≡◌, ◌≢◌, ℕ, ◌+◌, ◌<◌, ◌≤◌, ◌^◌, Bool, true, false, cond, List, [], ◌∷◌, ◌++◌, Option, Some, None, Result, Ok, Err, length, refl, sym, ap, subst, ◌∙◌, arith, decimal, append-nil, append_assoc, length-append, inl, inr}
+use Rattle.std.proofs.Common.{◌≡◌, ◌≢◌, ℕ, ◌+◌, ◌<◌, ◌≤◌, Bool, true, false, cond, List, [], ◌∷◌, ◌++◌, Some, None, Ok, Err, length, refl, sym, ap, subst, ◌∙◌, arith, decimal, append-nil, append_assoc, inl, inr}
 use Rattle.std.specs.Prelude.{◌⊎◌, ◌==◌, codes, slice_get, IfSome}
 use Rattle.std.specs.Str.{bytes_eq}
 use Rattle.std.proofs.lemmas.Bool.{and_parts, and_from}
@@ -14,7 +14,7 @@ use Rattle.snap_rows.specs.declared.tables.Tables.{Tables}
 use Rattle.snap_rows.specs.Form.{IsWellFormed}
 use Rattle.snap_rows.specs.Rules.{IsFirstBroken, IsValid, Keeps}
 use Rattle.snap_tables.specs.Joins.{Lacks, join}
-use Rattle.snap_tables.specs.Text.{Words, first_line, last_line, rank_words, row_words, spaced, text}
+use Rattle.snap_tables.specs.Text.{Words, last_line, rank_words, row_words, text}
 use Rattle.snap_tables.specs.Drafts.{ArePlaces, IsFirstSplit, IsItem, IsKept, IsLineFault, IsNoFirst, IsNone, IsPutLine, IsReadTo, first_body, is_last, place_of, tables_of}
 use Rattle.snap_tables.specs.Lines.{Begins, Breaks, Follows, IsBadLine, at_first, behind_beginning, behind_last, IsBeginning, IsRead, IsWhole, Passes, counts_of, front_text, is_ready, item_body, item_line, line_of, lines_of, passed, with_item}
 use Rattle.snap_tables.specs.declared.draft.TablesDraft.{TablesDraft}

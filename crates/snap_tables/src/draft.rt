@@ -1,14 +1,13 @@
 //! Tables as far as their lines are read.
 
-ghost use Rattle.std.specs.Prelude.{◌≡◌, ◌≤◌, ◌++◌, ◌∷◌, [], Some, None, map, length, IfOk, OnOk};
-ghost use Rattle.std.specs.List.{list_all};
+ghost use Rattle.std.specs.Prelude.{◌≡◌, ◌≤◌, ◌++◌, Some, None, length, IfOk, OnOk};
 ghost use Rattle.snap_core.specs.declared.program.Which.{Which};
 ghost use Rattle.snap_core.specs.Fields.{IsFields};
 ghost use Rattle.snap_tables.specs.Drafts.{IsKept, IsPut, may_come, no_entries, tables_of};
 ghost use Rattle.snap_tables.specs.declared.item.Item.TheVariants as item;
 ghost use Rattle.snap_tables.specs.Known.{IsBody, row_next};
 ghost use Rattle.snap_tables.specs.Entries.{are_new, declared, is_new, next_pair, pair_from, due_pair};
-ghost use Rattle.snap_tables.specs.Lines.{counts_of, has, has_all_hops, is_ready, last_section, over};
+ghost use Rattle.snap_tables.specs.Lines.{counts_of, has_all_hops, is_ready, last_section, over};
 
 use crate::item::{Body, Item, NextRow};
 use crate::piece::Counts;

@@ -1,7 +1,7 @@
 //! Stages, updates and outs of leaves.
 
-ghost use Rattle.std.specs.Prelude.{◌≡◌, ◌∷◌, IfOk, MatchOption};
-ghost use Rattle.snap_rows.specs.Form.{atom_cmp, parts_cmp};
+ghost use Rattle.std.specs.Prelude.{◌≡◌, IfOk, MatchOption};
+ghost use Rattle.snap_rows.specs.Form.{atom_cmp};
 ghost use Rattle.snap_tables.specs.Pieces.{is_adjacent};
 ghost use Rattle.snap_tables.specs.Reading.{words_left};
 ghost use Rattle.snap_tables.specs.Rows.{AreOutsSaid, AreStagesTaken, AreUpdatesTaken, IsNoOuts, IsNoStages, IsNoUpdates, parts_less, rank_among, rises_from, stands_apart};

@@ -1,10 +1,10 @@
 //! Lines that declare names.
 
-ghost use Rattle.std.specs.Prelude.{◌≡◌, Some, None, IfOk, MatchOption};
+ghost use Rattle.std.specs.Prelude.{◌≡◌, Some, None, MatchOption};
 ghost use Rattle.snap_core.specs.Names.{is_name};
 ghost use Rattle.snap_core.specs.Figures.{parts_by};
 ghost use Rattle.snap_core.specs.Names.{is_switch_name};
-ghost use Rattle.snap_tables.specs.Reading.{Gives, array_said, below_said, declared_said, field_said, is_slash, is_space, name_said, no_words, number_said, opened, rank_taken, switch_said, taken, words_left};
+ghost use Rattle.snap_tables.specs.Reading.{Gives, array_said, declared_said, field_said, is_slash, is_space, name_said, no_words, number_said, opened, rank_taken, switch_said, taken, words_left};
 
 use crate::reader::{next_word, number_said};
 use crate::taken::{no_words, opened, take_below};

@@ -1,11 +1,9 @@
 //! The pieces of rows: parts of outs, updates, outs and stages.
 
 ghost use Rattle.std.specs.Prelude.{◌≡◌, true};
-ghost use Rattle.std.specs.Ordering.{is_lt};
-ghost use Rattle.snap_rows.specs.Form.{atom_cmp, parts_cmp};
 ghost use Rattle.snap_tables.specs.Pieces.{is_adjacent};
 ghost use Rattle.snap_tables.specs.Reading.{words_left};
-ghost use Rattle.snap_tables.specs.Rows.{is_part_word, opens_part, opens_with, part_less, parts_less, stands_apart};
+ghost use Rattle.snap_tables.specs.Rows.{is_part_word, opens_part, opens_with, part_less};
 
 use crate::piece::{Counts, Piece, take_all};
 use crate::reader::{next_word, part_said};

@@ -1,10 +1,9 @@
 //! The text of tables, written.
 
-ghost use Rattle.std.specs.Prelude.{◌≡◌, ◌++◌, length, [], OnOk, OnErr, IfErr};
+ghost use Rattle.std.specs.Prelude.{◌≡◌, ◌++◌, length, OnOk, OnErr};
 ghost use Rattle.std.specs.List.{All, flat_map};
 ghost use Rattle.snap_rows.specs.Bodies.{IsPlaced};
 ghost use Rattle.std.specs.Io.KnownBytes.{Appends};
-ghost use Rattle.snap_io.specs.Causes.{HasCause, Rose};
 ghost use Rattle.snap_io.specs.Outputs.{Puts};
 ghost use Rattle.snap_io.specs.Sinks.{AppendsPart};
 ghost use Rattle.snap_tables.specs.Print.{Blames};

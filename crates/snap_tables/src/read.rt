@@ -1,6 +1,6 @@
 //! The text of tables, read.
 
-ghost use Rattle.std.specs.Prelude.{◌≡◌, ◌≢◌, ◌⊎◌, ◌+◌, ◌^◌, ◌<◌, ◌≤◌, [], Err, ℕ, IfOk, IfErr, OnOk, MatchOption, MatchResult};
+ghost use Rattle.std.specs.Prelude.{◌≡◌, ◌≢◌, ◌⊎◌, ◌+◌, ◌<◌, [], Err, ℕ, IfOk, IfErr, OnOk, MatchOption, MatchResult};
 ghost use Rattle.snap_tables.specs.Drafts.{IsFirstSplit, IsKept, IsLed, IsLineFault, IsNoFirst, IsPutLine, IsReadTo, first_body, is_last, tables_of};
 ghost use Rattle.snap_tables.specs.Known.{AreKnown};
 ghost use Rattle.snap_tables.specs.Lines.{IsRead};

@@ -1,7 +1,7 @@
 //! Updates and tests, taken from the front of a line's words.
 
-ghost use Rattle.std.specs.Prelude.{◌≡◌, ◌-◌, ◌^◌, Some, None, IfOk, MatchOption};
-ghost use Rattle.snap_tables.specs.Reading.{begins_update, atom_said, below_said, by_taken, equal_taken, index_said, number_said, op_said, state_taken, taken, term_said, u64_said, update_taken, value_taken, words_left};
+ghost use Rattle.std.specs.Prelude.{◌≡◌, ◌-◌, Some, None, IfOk, MatchOption};
+ghost use Rattle.snap_tables.specs.Reading.{begins_update, atom_said, by_taken, equal_taken, index_said, op_said, state_taken, taken, term_said, update_taken, value_taken, words_left};
 
 use crate::reader::{atom_said, index_said, next_word, term_said};
 use crate::scan::is_text;

@@ -1,6 +1,6 @@
 //! The distances to a switch, by levels.
 
-ghost use Rattle.std.specs.Prelude.{◌≡◌, ◌<◌, ◌≤◌, ◌+◌, ◌^◌, ℕ, [], All, Contains, IfOk, length};
+ghost use Rattle.std.specs.Prelude.{◌≡◌, ◌<◌, ◌≤◌, ◌+◌, ℕ, [], All, Contains, IfOk, length};
 ghost use Rattle.std.specs.List.{flat_map};
 ghost use Rattle.snap_topology.specs.Graphs.{IsGraph, neighbours_of};
 ghost use Rattle.snap_topology.specs.Search.{Reaches, Settles, unreached};

@@ -9,7 +9,7 @@ use Rattle.clap.specs.declared.parser.matches.ValueSource.TheVariants.{DefaultVa
 use Rattle.clap.specs.declared.error.kind.ErrorKind.{ErrorKind}
 use Rattle.clap.specs.declared.error.kind.ErrorKind.TheVariants.{InvalidValue}
 use Rattle.clap.proofs.OnLiterals.{clap_on_literals}
-use Rattle.snap_words.specs.Words.{Flag, Valued, flag_text, hops_flag, ordered_flag, schedule_option, changes_option, workers_option}
+use Rattle.snap_words.specs.Words.{Flag, Valued, flag_text, hops_flag, ordered_flag, schedule_option}
 use Rattle.snap_words.proofs.Turns.{done, flag_built, held, settles, top, waits}
 
 or_else-nil : (k : Kinds) → or_else k [] ≡ k

@@ -4,7 +4,7 @@ use Rattle.std.proofs.lemmas.Slice.Eq.{bytes_eq-Decides}
 use Rattle.clap.specs.Words.{Row, Text}
 use Rattle.clap.specs.Walk.{all_of, finished, has_row, one_of, reading_by, with_default, with_values}
 use Rattle.clap.specs.declared.parser.matches.ValueSource.TheVariants.{CommandLine, DefaultValue}
-use Rattle.snap_words.specs.Words.{Flag, ArgumentsView, Valued, flag_text, flagged, hops_flag, is_same_flag, is_same_option, nothing, on_demand_flag, option_text, ordered_flag, schedule_option, changes_option, workers_option, valued, with_names}
+use Rattle.snap_words.specs.Words.{Flag, ArgumentsView, Valued, flag_text, flagged, hops_flag, is_same_flag, is_same_option, nothing, on_demand_flag, option_text, ordered_flag, schedule_option, valued, with_names}
 use Rattle.snap_words.proofs.ClapForm.{Has}
 use Rattle.snap_words.proofs.Rows.{all_of-other, all_of-same, has_row-all_of, one_of-other, one_of-same, without-absent}
 use Rattle.snap_words.proofs.Turns.{done, flag_built, flag_used, held, name_built, name_id, name_used, option_built, option_used, top}

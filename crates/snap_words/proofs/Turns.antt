@@ -14,7 +14,7 @@ use Rattle.clap.specs.declared.parser.matches.ValueSource.TheVariants.{CommandLi
 use Rattle.clap.specs.declared.error.kind.ErrorKind.TheVariants.{ArgumentConflict, InvalidValue, UnknownArgument, TooManyValues}
 use Rattle.clap.proofs.OnLiterals.{clap_on_literals}
 use Rattle.snap_words.specs.Clap.{app, flag_rule, name_rule, option_rule}
-use Rattle.snap_words.specs.Words.{Flag, Valued, flag_text, hops_flag, on_demand_flag, ordered_flag, option_text, schedule_option, changes_option, workers_option}
+use Rattle.snap_words.specs.Words.{Flag, Valued, flag_text, hops_flag, option_text, schedule_option}
 
 abbrev pub top : Shape
 top = (built app).top

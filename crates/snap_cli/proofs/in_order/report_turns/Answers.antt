@@ -1,5 +1,5 @@
 use Rattle.std.proofs.Common.{refl, option_map}
-use Rattle.snap_words.specs.Commands.{in_order, plain, schedule}
+use Rattle.snap_words.specs.Commands.{in_order, plain}
 use Rattle.snap_cli.specs.Statuses.{statuses_of_trace}
 use Rattle.snap_cli.proofs.StatusLemmas.{ends-more}
 use Rattle.snap_cli.proofs.in_order.report_turns.Goals as goal

@@ -1,4 +1,4 @@
-use Rattle.std.proofs.Common.{[], ◌∷◌, Ok, Err, IfErr, IfSome, refl, ◌∙◌}
+use Rattle.std.proofs.Common.{[], ◌∷◌, Ok, IfErr, IfSome, refl, ◌∙◌}
 use Rattle.std.proofs.lemmas.Option.{IfSome_then}
 use Rattle.snap_io.specs.Files.{file_of}
 use Rattle.snap_cli.specs.InputsSteps.{GivesInputs}

@@ -1,9 +1,8 @@
-use Rattle.std.proofs.Common.{◌≡◌, List, length, map, sym, ap, subst, ◌∙◌}
+use Rattle.std.proofs.Common.{List, length, map, sym, ap, subst, ◌∙◌}
 use Rattle.std.specs.List.{All}
 use Rattle.std.proofs.lemmas.Simd.{map-map}
 use Rattle.snap_rows.specs.Bodies.{IsPlaced, placed}
 use Rattle.snap_rows.specs.declared.tables.Row.{Row}
-use Rattle.snap_rows.specs.declared.tables.RowAt.{RowAt}
 use Rattle.snap_faithful.specs.OnDemand.{place_of}
 use Rattle.snap_make.specs.Demanded.{demanded, with_gone}
 use Rattle.snap_make.specs.Pairs.{at_switches, row_entry}

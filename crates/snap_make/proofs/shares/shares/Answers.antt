@@ -1,4 +1,4 @@
-use Rattle.std.proofs.Common.{length, refl}
+use Rattle.std.proofs.Common.{length}
 use Rattle.snap_make.specs.Shares.{entries, shown, with_stop}
 use Rattle.snap_make.proofs.Pushed.{at_switches_more}
 use Rattle.snap_make.proofs.shares.shares.Goals as goal

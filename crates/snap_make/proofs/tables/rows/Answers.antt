@@ -2,7 +2,6 @@ use Rattle.std.proofs.Common.{◌≡◌, List, map, sym, ap, subst, ◌∙◌}
 use Rattle.std.specs.List.{All}
 use Rattle.snap_rows.specs.Bodies.{IsPlaced, placed}
 use Rattle.snap_rows.specs.declared.tables.Row.{Row}
-use Rattle.snap_rows.specs.declared.tables.RowAt.{RowAt}
 use Rattle.snap_make.specs.Shares.{AreShares, with_stop}
 use Rattle.snap_make.proofs.tables.rows.Goals as goal
 

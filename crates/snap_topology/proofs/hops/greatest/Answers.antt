@@ -1,4 +1,4 @@
-use Rattle.std.proofs.Common.{◌∙◌, List, ℕ, ap, max, subst, sym, arith, length, map}
+use Rattle.std.proofs.Common.{◌∙◌, List, ℕ, ap, max, subst, sym, arith}
 use Rattle.std.specs.List.{Contains}
 use Rattle.std.proofs.lemmas.List.{get_or-map, length-map}
 use Rattle.snap_topology.specs.Tables.{row_by}

@@ -1,4 +1,4 @@
-use Rattle.std.proofs.Common.{◌≡◌, [], ℕ, List, rules, subst, sym, arith, length, MatchOption, slice_index}
+use Rattle.std.proofs.Common.{◌≡◌, [], ℕ, List, rules, subst, sym, arith, MatchOption, slice_index}
 use Rattle.std.specs.List.{Contains}
 use Rattle.std.specs.List.Sorted.{IsNonDecreasing}
 use Rattle.snap_topology.specs.Graphs.{neighbours_of}

@@ -1,6 +1,5 @@
 use Rattle.std.proofs.Common.{◌<◌, Result, Ok, Err, length, refl, sym, subst, ◌∙◌}
 use Rattle.std.specs.Prelude.{OnErr}
-use Rattle.std.proofs.lemmas.Result.{IfOk-weaker}
 use Rattle.snap_net.specs.Moves.{StepsAt}
 use Rattle.snap_net.specs.Shown.{NetView, Same}
 use Rattle.snap_net.proofs.Blocks.{found}
