@@ -1,8 +1,9 @@
 -- What `clap` makes of the words behind a command, before our own tests.
-use Rattle.std.specs.Prelude.{◌≡◌, option_map, unwrap_or, cond, List, [], ◌∷◌, codes, Option, Some, None, option_and_then, bytes_eq}
+use Rattle.std.specs.Prelude.{◌≡◌, option_map, unwrap_or, cond, List, [], ◌∷◌, codes, Option, Some, None, option_and_then, if◌then◌else◌, bytes_eq}
+use Rattle.clap.specs.Lexer.{long_of, short_of}
 use Rattle.clap.specs.Walk.{one_of}
 use Rattle.clap.specs.Words.{Row, all_of}
-use Rattle.snap_words.specs.Words.{Flag, Text, ArgumentsView, Valued, Word, add, flag_text, name_word, option_text, option_with, with_value}
+use Rattle.snap_words.specs.Words.{Flag, Text, ArgumentsView, Valued, Word, add, end_of_options, flag_text, name_word, option_text, option_with, with_value}
 
 -- what a word says, where no value is waited for, unless it is refused
 abbrev pub long_met : Option (Text × Option Text) → Option Text → Option Word

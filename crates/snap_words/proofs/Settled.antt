@@ -1,13 +1,14 @@
 -- Where `clap` finds nothing wrong, an option that waits for its value is settled.
 use Rattle.std.proofs.Common.{◌≡◌, ◌∙◌, refl, sym, ap, Bool, true, false, List, [], ◌∷◌, codes, Option, Some, None, IsUtf8, bytes_eq}
 use Rattle.clap.specs.Words.{Row, Text}
+use Rattle.clap.specs.Lexer.{long_of, short_of}
 use Rattle.clap.specs.Kinds.{or_else}
 use Rattle.clap.specs.Faults.{turn_fault}
 use Rattle.clap.specs.Walk.{walked}
 use Rattle.clap.specs.declared.error.kind.ErrorKind.TheVariants.{UnknownArgument, TooManyValues}
 use Rattle.snap_words.proofs.Shapes.{AllText, first_char, short_text}
 use Rattle.snap_words.proofs.Turns.{at, dashes_moves, dashes_turn, flag_turn, flag_valued, held, long_turn, name_turn, settles, short_turn, top, trail_turn, value_turn, wait_turn}
-use Rattle.snap_words.specs.Words.{Flag, Valued}
+use Rattle.snap_words.specs.Words.{Flag, Valued, flag_text, option_text}
 use Rattle.snap_words.proofs.Names.{Named, a_flag, an_option, named, unknown}
 use Rattle.snap_words.proofs.Faults.{first_nil, fault, fault-more, fault-none, ends, turn_nil}
 
