@@ -75,9 +75,9 @@ pub data Leads (t : Tables) (s : Net) : Event → Net → List Happening → Typ
       → Leads t s (Step i) (stepped s i c m a) (happening c a ∷ [])
 
 -- the events lead from s to s', where each leads as it says here
-pub data RunsBy {S L : Type 0} (leads : S → Event → S → List L → Type 0) : S → List Event → S → List L → Type 0 where
+pub data RunsBy {S E L : Type 0} (leads : S → E → S → List L → Type 0) : S → List E → S → List L → Type 0 where
   done : {s : S} → RunsBy leads s [] s []
-  on : {s s' s'' : S} {e : Event} {es : List Event} {h hs : List L}
+  on : {s s' s'' : S} {e : E} {es : List E} {h hs : List L}
       → leads s e s' h → RunsBy leads s' es s'' hs → RunsBy leads s (e ∷ es) s'' (h ++ hs)
 
 -- so they do in the network
