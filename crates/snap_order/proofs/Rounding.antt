@@ -1,12 +1,13 @@
 -- How a run by rounds goes on, and its report.
-use Rattle.std.proofs.Common.{◌≡◌, ◌≢◌, ℕ, suc, ◌+◌, ◌<◌, Bool, true, List, [], ◌∷◌, ◌++◌, Some, length, map, reverse, refl, sym, ap, subst, ◌∙◌, arith, append-nil, append_assoc}
+use Rattle.std.proofs.Common.{◌≡◌, ◌≢◌, ℕ, suc, ◌+◌, ◌<◌, Bool, true, List, [], ◌∷◌, ◌++◌, Some, length, map, reverse, refl, sym, ap, subst, ◌∙◌, arith}
 use Rattle.std.specs.Prelude.{slice_get, slice_index}
-use Rattle.std.specs.List.{All}
+use Rattle.std.specs.List.{All, concat}
 use Rattle.std.proofs.lemmas.Option.{none-some}
 use Rattle.snap_core.specs.Arrays.{zero_arrays}
 use Rattle.snap_rows.specs.declared.tables.Tables.{Tables}
 use Rattle.snap_rows.specs.Form.{comps}
-use Rattle.snap_rows.specs.Network.{Copy, Event, Inject}
+use Rattle.snap_rows.specs.Network.{Copy, Event, Inject, RunsBy, done}
+use Rattle.snap_rows.proofs.Runs.{runs-then}
 use Rattle.snap_net.specs.Shown.{IsNetView}
 use Rattle.snap_net.proofs.Blocks.{found}
 use Rattle.snap_net.proofs.Steps.{copy_shown}
@@ -21,7 +22,7 @@ use Rattle.snap_order.specs.Ordered.{Ordered, OrderedHappening, LeadsInOrder, be
 use Rattle.snap_order.specs.Playing.{NumberIsBelow, Plays, left_in}
 use Rattle.snap_order.specs.Reports.{IsRunReport}
 use Rattle.snap_order.specs.Rounding.{AreThere, HasRounded, IsPaced, IsRoundDone, NoteTurns, PlaysRounds, toil}
-use Rattle.snap_order.specs.Rounds.{GoesByRounds, injects, goes_on, rests, IsRound, IsRoundReport}
+use Rattle.snap_order.specs.Rounds.{GoesRound, injects, goes_on, IsRound, IsRoundReport}
 use Rattle.snap_order.specs.Shown.{IsOrderedNetView, OrderedNetView, RepresentsInOrder, told_of}
 use Rattle.snap_order.proofs.Placed.{IsLong, Placed, long_shown, placed_shown}
 use Rattle.snap_order.proofs.Rounds.{injects_one, round_injected, round_numbers, tallied_round, told_below}
@@ -89,13 +90,13 @@ module _ (old : OrderedPlay) (now : OrderedNetView) (told : List Moved) (does : 
 -- ---- the schedule of rounds
 pub rounds_first : (t : Tables) (hops : Bool) (ks : List (List ℕ)) (v : OrderedPlay) → Plays t hops (begin t zero_arrays) [] v → left_in v ≡ ks → PlaysRounds t hops ks v
 rounds_first t hops ks v plays left = record {
-  events = [];
+  rounds = [];
   state = begin t zero_arrays;
   turns = [];
+  run = subst (λ l. RunsBy (GoesRound t) (entering ks, begin t zero_arrays) [] (entering l, begin t zero_arrays) []) (sym left) done;
   plays = plays;
   pace = pace_first t (begin t zero_arrays) refl refl (λ q. refl);
   injected = (let e : length (left_in v) ≡ length ks = ap length left in omega (arith, e));
-  on = λ es end us rest. subst (λ l. GoesByRounds t (entering l) (begin t zero_arrays) es end us) left rest;
 }
 
 pub paced_of : (t : Tables) (hops : Bool) (ks : List (List ℕ)) (v : OrderedPlay) → PlaysRounds t hops ks v → IsPaced v
@@ -116,16 +117,14 @@ module _ (old mid : OrderedPlay) (held : IsNetView mid.net.net) (ordered : IsOrd
       let e = Inject (slice_index a.packet 0) a.packet in
       let left : left_in old ≡ a.packet ∷ left_in new = a.next ∙ ap (λ l. a.packet ∷ l) (sym b.left) in
       record {
-        events = p.events ++ (e ∷ b.events);
+        rounds = p.rounds ++ (e ∷ b.events) ∷ [];
         state = b.state;
         turns = p.turns ++ b.turns;
+        run = runs-then (e ∷ b.events) (entering (left_in new), b.state) b.turns
+            (subst (λ l. RunsBy (GoesRound t) (entering ks, begin t zero_arrays) p.rounds (entering l, p.state) p.turns) left p.run) (injects a.leads b.round);
         plays = b.plays;
         pace = round_pace t (two_of t a.plays.tables) b.round (placed_of t hops a.state p.turns a.plays) (inject_pace a.leads p.pace);
         injected = (let x = round_injected b.round in let y = injects_one a.leads in let z = ap length left in let w = p.injected in omega (arith, x, y, z, w));
-        on = λ es end us rest.
-            subst (λ l. GoesByRounds t (entering ks) (begin t zero_arrays) l end ((p.turns ++ b.turns) ++ us)) (sym (append_assoc p.events (e ∷ b.events) es))
-            (subst (GoesByRounds t (entering ks) (begin t zero_arrays) (p.events ++ (e ∷ (b.events ++ es))) end) (sym (append_assoc p.turns b.turns us))
-            (p.on (e ∷ (b.events ++ es)) end (b.turns ++ us) (subst (λ l. GoesByRounds t (entering l) p.state (e ∷ (b.events ++ es)) end (b.turns ++ us)) (sym left) (injects a.leads b.round rest))));
       }
 
 -- one packet fewer waits
@@ -147,17 +146,15 @@ module _ (old new : OrderedPlay) (held : IsNetView old.net.net) (ordered : IsOrd
       let flies : p.state.net.flying ≢ [] = λ e. none-some c.0 (ap (λ l. slice_get l 0) (sym e) ∙ c.1) in
       let left : left_in new ≡ [] = b.left ∙ none in
       record {
-        events = p.events ++ b.events;
+        rounds = p.rounds ++ b.events ∷ [];
         state = b.state;
         turns = p.turns ++ b.turns;
+        run = subst (λ l. RunsBy (GoesRound t) (entering ks, begin t zero_arrays) (p.rounds ++ b.events ∷ []) (entering l, b.state) (p.turns ++ b.turns)) (sym left)
+            (runs-then b.events ([], b.state) b.turns
+            (subst (λ l. RunsBy (GoesRound t) (entering ks, begin t zero_arrays) p.rounds (entering l, p.state) p.turns) none p.run) (goes_on flies b.round));
         plays = b.plays;
         pace = round_pace t (two_of old old held ordered t p.plays.tables) b.round (placed_of old old held ordered t hops p.state p.turns p.plays) p.pace;
         injected = ap (λ m. m + length (left_in new)) (round_injected b.round) ∙ ap (λ l. p.state.net.injected + length l) b.left ∙ p.injected;
-        on = λ es end us rest.
-            subst (λ l. GoesByRounds t (entering ks) (begin t zero_arrays) l end ((p.turns ++ b.turns) ++ us)) (sym (append_assoc p.events b.events es))
-            (subst (GoesByRounds t (entering ks) (begin t zero_arrays) (p.events ++ (b.events ++ es)) end) (sym (append_assoc p.turns b.turns us))
-            (p.on (b.events ++ es) end (b.turns ++ us) (subst (λ l. GoesByRounds t (entering l) p.state (b.events ++ es) end (b.turns ++ us)) (sym none)
-            (goes_on flies b.round (subst (λ l. GoesByRounds t (entering l) b.state es end us) left rest)))));
       }
 
   -- and fewer steps are left
@@ -176,18 +173,17 @@ module _ (old new : OrderedPlay) (held : IsNetView old.net.net) (ordered : IsOrd
 pub round_report : (t : Tables) (hops : Bool) (ks : List (List ℕ)) (v : OrderedPlay) (text : List ℕ) (p : PlaysRounds t hops ks v) → left_in v ≡ [] → v.net.net.flying ≡ [] → IsRunReport t hops p.state.net.injected p.state.net (happenings p.turns) text
     → IsRoundReport t hops ks text
 round_report t hops ks v text p left rested report = record {
-  events = p.events;
+  events = concat p.rounds;
   end = p.state;
   turns = p.turns;
-  run =
-      (let run = p.on [] p.state [] (subst (λ l. GoesByRounds t (entering l) p.state [] p.state []) (sym left) (rests ended)) in
-      subst (λ l. GoesByRounds t (entering ks) (begin t zero_arrays) l p.state p.turns) (append-nil p.events)
-      (subst (GoesByRounds t (entering ks) (begin t zero_arrays) (p.events ++ []) p.state) (append-nil p.turns) run));
+  run = record {
+    rounds = p.rounds;
+    run = subst (λ l. RunsBy (GoesRound t) (entering ks, begin t zero_arrays) p.rounds (entering l, p.state) p.turns) left p.run;
+    are = refl;
+    rests = rests-shown v.net.net p.state.net p.plays.shows.net rested;
+  };
   report = subst (λ n. IsRunReport t hops n p.state.net (happenings p.turns) text) count report;
 }
   where
-    ended : p.state.net.flying ≡ []
-    ended = rests-shown v.net.net p.state.net p.plays.shows.net rested
-
     count : p.state.net.injected ≡ length ks
     count = (let a = p.injected in let b : length (left_in v) ≡ 0 = ap length left in omega (arith, a, b))

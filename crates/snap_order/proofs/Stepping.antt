@@ -1,20 +1,21 @@
 -- A round made step by step.
-use Rattle.std.proofs.Common.{◌≡◌, ℕ, ◌+◌, ◌<◌, ◌≤◌, List, [], ◌∷◌, ◌++◌, Some, drop, get_or, length, map, take, refl, sym, ap, subst, ◌∙◌, arith, append-nil, append_assoc}
+use Rattle.std.proofs.Common.{◌≡◌, ℕ, ◌+◌, ◌<◌, ◌≤◌, List, [], ◌∷◌, ◌++◌, Some, drop, get_or, length, map, take, refl, sym, ap, subst, ◌∙◌, arith}
 use Rattle.std.specs.Prelude.{slice_get}
 use Rattle.std.proofs.lemmas.List.{length-append, length-map, map-append}
 use Rattle.snap_rows.specs.declared.tables.Tables.{Tables}
-use Rattle.snap_rows.specs.Network.{Copy, Step, moved}
+use Rattle.snap_rows.specs.Network.{Copy, RunsBy, Step, done, moved}
+use Rattle.snap_rows.proofs.Runs.{runs-then}
 use Rattle.snap_net.specs.Shown.{flown}
 use Rattle.snap_faithful.proofs.Leaving.{split_up}
 use Rattle.snap_runs.proofs.Steps.{shown}
 use Rattle.snap_net.specs.declared.happened.Moved.{Moved}
 use Rattle.snap_order.specs.Ordered.{Ordered, OrderedHappening, LeadsInOrder, left_by, moves, visits, waits}
 use Rattle.snap_order.specs.Rounding.{HasRoundedTo, IsRoundDone}
-use Rattle.snap_order.specs.Rounds.{IsRound, ends, takes}
+use Rattle.snap_order.specs.Rounds.{TakesNext, takes}
 use Rattle.snap_order.specs.Shown.{SimulatesInOrder, OrderedNetView, RepresentsInOrder, TellsTurn, told_of}
 
 pub rounded_first : (v : OrderedNetView) (s : Ordered) → RepresentsInOrder v s → HasRoundedTo v.net.tables s 0 v []
-rounded_first v s shows = record { state = s; events = []; turns = []; shows = shows; told = refl; within = omega arith; on = λ s' es us rest. rest }
+rounded_first v s shows = record { state = s; events = []; turns = []; run = done; shows = shows; told = refl; within = omega arith }
 
 flying_shown : (v : OrderedNetView) (s : Ordered) → RepresentsInOrder v s → length v.net.flying ≡ length s.net.flying
 flying_shown v s shows = sym (ap length shows.net.flying) ∙ length-map s.net.flying flown
@@ -42,12 +43,10 @@ module _ (t : Tables) (s : Ordered) (place : ℕ) (mid new : OrderedNetView) (do
         state = d.0;
         events = h.events ++ Step place ∷ [];
         turns = h.turns ++ d.1;
+        run = runs-then (Step place) (next, d.0) d.1 h.run (takes d.2 (omega (arith, a, b, counted)));
         shows = d.3;
         told = (λ i. h.told i ++ last i) ∙ sym (map-append told_of h.turns d.1);
         within = omega (arith, a, b, counted, below);
-        on = λ s' es us rest.
-            subst (λ l. IsRound t s l s' ((h.turns ++ d.1) ++ us)) (sym (append_assoc h.events (Step place ∷ []) es))
-            (subst (IsRound t s (h.events ++ (Step place ∷ es)) s') (sym (append_assoc h.turns d.1 us)) (h.on s' (Step place ∷ es) (d.1 ++ us) (takes d.2 (omega (arith, a, b, counted)) rest)));
       }
 
 pub rounded_all : (old now : OrderedNetView) (done : List Moved) (place : ℕ) → length now.net.flying ≤ place → ((s : Ordered) → RepresentsInOrder old s → HasRoundedTo old.net.tables s place now done) → IsRoundDone old now done
@@ -55,11 +54,11 @@ rounded_all old now done place over so s shows =
     let h = so s shows in
     let a = flying_shown now h.state h.shows in
     let low = h.within in
-    let round = h.on h.state [] [] (ends (omega (arith, a, low, over))) in (
+    let at : place ≡ length h.state.net.flying = omega (arith, a, low, over) in (
       h.state,
       h.events,
       h.turns,
-      subst (λ l. IsRound old.net.tables s l h.state h.turns) (append-nil h.events) (subst (IsRound old.net.tables s (h.events ++ []) h.state) (append-nil h.turns) round),
+      subst (λ i. RunsBy (TakesNext old.net.tables) (0, s) h.events (i, h.state) h.turns) at h.run,
       h.shows,
       h.told,
     )

@@ -6,7 +6,7 @@ use Rattle.std.proofs.lemmas.Option.{slice_get_within}
 use Rattle.snap_rows.specs.Actions.{Action, Forward, Deliver, Fork}
 use Rattle.snap_rows.specs.declared.head.Head.TheVariants.{Visit}
 use Rattle.snap_rows.specs.declared.tables.Tables.{Tables}
-use Rattle.snap_rows.specs.Network.{Copy, Event, Step, Crossed, Delivered, Forked, happening, moved}
+use Rattle.snap_rows.specs.Network.{Copy, Event, RunsBy, Step, done, on, Crossed, Delivered, Forked, happening, moved}
 use Rattle.snap_net.specs.declared.flying.Flying.{Flying}
 use Rattle.snap_net.specs.declared.happened.Moved.{Moved}
 use Rattle.snap_net.specs.Shown.{HasFrame, flown, frame_with, moving}
@@ -17,7 +17,7 @@ use Rattle.snap_runs.specs.Tallies.{IsThere}
 use Rattle.snap_runs.proofs.Tallied.{is-there}
 use Rattle.snap_order.specs.Ordered.{Ordered, OrderedHappening, Happens, Stays, Waits, LeadsInOrder, left_by, moves, turn_of, visits, waits}
 use Rattle.snap_order.specs.Rounding.{AreThere, width}
-use Rattle.snap_order.specs.Rounds.{TakesFrom, ends, takes}
+use Rattle.snap_order.specs.Rounds.{IsRound, TakesNext, takes}
 use Rattle.snap_order.specs.Shown.{StandsTurn, frame_of_turn, told_of}
 
 -- ---- one step
@@ -96,9 +96,9 @@ turn_keeps (waits is before early) j low = refl
 next_place : {t : Tables} {s s' : Ordered} {i j : ℕ} {us : List OrderedHappening} → LeadsInOrder t s (Step i) s' us → (u : OrderedHappening) → us ≡ u ∷ [] → j + length s.net.flying ≡ i + 1 + length s'.net.flying → j ≡ i + width (told_of u)
 next_place leads u one counted = let w = turn_width leads u one in omega (arith, counted, w)
 
-round_keeps : {t : Tables} {i : ℕ} {s s' : Ordered} {es : List Event} {us : List OrderedHappening} → TakesFrom t i s es s' us → (j : ℕ) → j ≤ i → take j s'.net.flying ≡ take j s.net.flying
-round_keeps (ends at) j low = refl
-round_keeps (takes leads counted rest) j low =
+round_keeps : {t : Tables} {x y : ℕ × Ordered} {es : List Event} {us : List OrderedHappening} → RunsBy (TakesNext t) x es y us → (j : ℕ) → j ≤ x.0 → take j y.1.net.flying ≡ take j x.1.net.flying
+round_keeps done j low = refl
+round_keeps (on (takes leads counted) rest) j low =
     let one = one_turn leads in
     let next = next_place leads one.0 one.1 counted in
     round_keeps rest j (omega (arith, next, low)) ∙ turn_keeps leads j low
@@ -123,17 +123,21 @@ abbrev pub StandFrom : ℕ → List Flying → List OrderedHappening → Type 0
 StandFrom place cs [] = place ≡ length cs
 StandFrom place cs (u ∷ us) = StandsTurn cs place u × StandFrom (place + width (told_of u)) cs us
 
-pub round_stands : {t : Tables} {i : ℕ} {s s' : Ordered} {es : List Event} {us : List OrderedHappening} → TakesFrom t i s es s' us → StandFrom i (map flown s'.net.flying) us
-round_stands {s = s} (ends at) = at ∙ sym (length-map s.net.flying flown)
-round_stands {i = i} {s' = end} (takes {s' = mid} {us = us} leads counted rest) =
+stands-from : {t : Tables} {x y : ℕ × Ordered} {es : List Event} {us : List OrderedHappening} → RunsBy (TakesNext t) x es y us → y.0 ≡ length y.1.net.flying → StandFrom x.0 (map flown y.1.net.flying) us
+stands-from {y = y} done at = at ∙ sym (length-map y.1.net.flying flown)
+stands-from {y = y} (on {hs = us} (takes {i = i} {s' = mid} leads counted) rest) at =
     let one = one_turn leads in
     let u = one.0 in
     let next = next_place leads u one.1 counted in
     let k = i + width (told_of u) in
+    let end = y.1 in
     let kept : take k end.net.flying ≡ take k mid.net.flying = round_keeps rest k (omega (arith, next)) in
     let same : take k (map flown end.net.flying) ≡ take k (map flown mid.net.flying) = take-map flown k end.net.flying ∙ ap (map flown) kept ∙ sym (take-map flown k mid.net.flying) in
     subst (λ l. StandFrom i (map flown end.net.flying) (l ++ us)) (sym one.1)
-    (stands_on u (map flown mid.net.flying) (map flown end.net.flying) i same (turn_stands leads u one.1), subst (λ j. StandFrom j (map flown end.net.flying) us) next (round_stands rest))
+    (stands_on u (map flown mid.net.flying) (map flown end.net.flying) i same (turn_stands leads u one.1), subst (λ j. StandFrom j (map flown end.net.flying) us) next (stands-from rest at))
+
+pub round_stands : {t : Tables} {s s' : Ordered} {es : List Event} {us : List OrderedHappening} → IsRound t s es s' us → StandFrom 0 (map flown s'.net.flying) us
+round_stands round = stands-from round refl
 
 -- so the notes can be made
 pub told_there : (us : List OrderedHappening) (place : ℕ) (cs : List Flying) → StandFrom place cs us → AreThere place cs (map told_of us)

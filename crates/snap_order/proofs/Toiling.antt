@@ -16,7 +16,7 @@ use Rattle.snap_rows.specs.Bound.{left, longest, most_stages, states_above, to_d
 use Rattle.snap_rows.specs.Entries.{next, rank_at, ranks, row_at}
 use Rattle.snap_rows.specs.Form.{switch_count}
 use Rattle.snap_rows.specs.Handles.{Handles}
-use Rattle.snap_rows.specs.Network.{Copy, Event, Step, moved}
+use Rattle.snap_rows.specs.Network.{Copy, Event, RunsBy, Step, done, on, moved}
 use Rattle.snap_rows.specs.Weight.{most_outs, weight, weight_after}
 use Rattle.snap_rows.proofs.Aims.{no_hops}
 use Rattle.snap_rows.proofs.Later.{rank_is_below}
@@ -29,7 +29,7 @@ use Rattle.snap_faithful.proofs.Leaving.{split_up}
 use Rattle.snap_faithful.proofs.Nodes.{IsTwo}
 use Rattle.snap_order.specs.Ordered.{Ordered, OrderedHappening, AwaitsVisit, LeadsInOrder, left_by, moves, visits, waits}
 use Rattle.snap_order.specs.Rounding.{KeepsPace, come_to, early, ranks_left, toil}
-use Rattle.snap_order.specs.Rounds.{TakesFrom, ends, takes}
+use Rattle.snap_order.specs.Rounds.{IsRound, TakesNext, takes}
 use Rattle.snap_order.specs.Serving.{StandsBefore}
 use Rattle.snap_order.proofs.Placed.{Placed, step_placed}
 use Rattle.snap_order.proofs.Standing.{Goes, carries, comes_early, comes_stands, delivers, early_some, goes, keeps, stands_once, step_pace, unranked}
@@ -197,9 +197,9 @@ module _ (t : Tables) (two : IsTwo t) where
   pub step_falls : {s s' : Ordered} {k : ℕ} {us : List OrderedHappening} → CanGo s k → LeadsInOrder t s (Step k) s' us → All (Placed t) s.net.flying → toil_of t s'.net.flying < toil_of t s.net.flying
   step_falls go leads all = ⊎_elim (λ less. less) (λ w. absurd (go_waits go w)) (step_toil leads all)
 
-  no_heavier : {i : ℕ} {s s' : Ordered} {es : List Event} {us : List OrderedHappening} → TakesFrom t i s es s' us → All (Placed t) s.net.flying → toil_of t s'.net.flying ≤ toil_of t s.net.flying
-  no_heavier (ends at) all = omega arith
-  no_heavier (takes leads next rest) all =
+  no_heavier : {x y : ℕ × Ordered} {es : List Event} {us : List OrderedHappening} → RunsBy (TakesNext t) x es y us → All (Placed t) x.1.net.flying → toil_of t y.1.net.flying ≤ toil_of t x.1.net.flying
+  no_heavier done all = omega arith
+  no_heavier (on (takes leads next) rest) all =
       let more = no_heavier rest (step_placed t two leads all) in
       ⊎_elim
       (λ less. omega (arith, less, more))
@@ -207,18 +207,18 @@ module _ (t : Tables) (two : IsTwo t) where
       (step_toil leads all)
 
   -- a round in which a copy goes leaves fewer steps to be made
-  round_lighter : {i : ℕ} {s s' : Ordered} {es : List Event} {us : List OrderedHappening} → TakesFrom t i s es s' us → All (Placed t) s.net.flying → (k : ℕ) → i ≤ k → CanGo s k → toil_of t s'.net.flying < toil_of t s.net.flying
-  round_lighter {s = s} (ends at) all k le go = absurd (let within = slice_get_within s.net.flying k go.copy go.is in omega (arith, at, le, within))
-  round_lighter {i = i} {s = s} (takes {j = j} {s' = mid} leads next rest) all k le go =
+  round_lighter : {x y : ℕ × Ordered} {es : List Event} {us : List OrderedHappening} → RunsBy (TakesNext t) x es y us → y.0 ≡ length y.1.net.flying → All (Placed t) x.1.net.flying → (k : ℕ) → x.0 ≤ k → CanGo x.1 k → toil_of t y.1.net.flying < toil_of t x.1.net.flying
+  round_lighter {y = y} done at all k le go = absurd (let within = slice_get_within y.1.net.flying k go.copy go.is in omega (arith, at, le, within))
+  round_lighter (on (takes {i = i} {j = j} {s = s} {s' = mid} leads next) rest) at all k le go =
       ⊎_elim
       (λ less. (let more = no_heavier rest (step_placed t two leads all) in omega (arith, less, more)))
       (λ w.
       (let same = ap (λ (x : Ordered). toil_of t x.net.flying) w.same in
       let long = ap (λ (x : Ordered). length x.net.flying) w.same in
       ⊎_elim
-      (λ (lt : i < k). (let more = round_lighter rest (step_placed t two leads all) k (omega (arith, next, long, lt)) (subst (λ x. CanGo x k) (sym w.same) go) in omega (arith, more, same)))
+      (λ (lt : i < k). (let more = round_lighter rest at (step_placed t two leads all) k (omega (arith, next, long, lt)) (subst (λ x. CanGo x k) (sym w.same) go) in omega (arith, more, same)))
       (λ (ge : k ≤ i).
-      (let at : i ≡ k = omega (arith, ge, le) in absurd (go_waits go (subst (IsWaiting s mid) at w))))
+      (let here : i ≡ k = omega (arith, ge, le) in absurd (go_waits go (subst (IsWaiting s mid) here w))))
       (cases_lt i k)))
       (step_toil leads all)
 
@@ -262,9 +262,9 @@ module _ (t : Tables) (two : IsTwo t) where
       (λ (none : ranks t ≤ 0). (0, record { copy = c; is = is; now = λ r n b. absurd (let low = rank_is_below t r c.at b.owner in omega (arith, low, none)) }))
       (cases_lt 0 (ranks t))
 
-  pub round_falls : {s s' : Ordered} {es : List Event} {us : List OrderedHappening} → TakesFrom t 0 s es s' us → All (Placed t) s.net.flying → KeepsPace t s → (c : Copy) → slice_get s.net.flying 0 ≡ Some c → toil_of t s'.net.flying < toil_of t s.net.flying
-  round_falls {s = s} round all pace c is = let g = some_goes s pace c is in round_lighter round all g.0 (omega arith) g.1
+  pub round_falls : {s s' : Ordered} {es : List Event} {us : List OrderedHappening} → IsRound t s es s' us → All (Placed t) s.net.flying → KeepsPace t s → (c : Copy) → slice_get s.net.flying 0 ≡ Some c → toil_of t s'.net.flying < toil_of t s.net.flying
+  round_falls {s = s} round all pace c is = let g = some_goes s pace c is in round_lighter round refl all g.0 (omega arith) g.1
 
-  pub round_pace : {i : ℕ} {s s' : Ordered} {es : List Event} {us : List OrderedHappening} → TakesFrom t i s es s' us → All (Placed t) s.net.flying → KeepsPace t s → KeepsPace t s'
-  round_pace (ends at) all pace = pace
-  round_pace (takes leads next rest) all pace = round_pace rest (step_placed t two leads all) (step_pace t two leads all pace)
+  pub round_pace : {x y : ℕ × Ordered} {es : List Event} {us : List OrderedHappening} → RunsBy (TakesNext t) x es y us → All (Placed t) x.1.net.flying → KeepsPace t x.1 → KeepsPace t y.1
+  round_pace done all pace = pace
+  round_pace (on (takes leads next) rest) all pace = round_pace rest (step_placed t two leads all) (step_pace t two leads all pace)

@@ -10,7 +10,7 @@ use Rattle.std.proofs.lemmas.List.Concat.{flat_map-cons}
 use Rattle.std.proofs.lemmas.List.Elements.{All-head, All-tail}
 use Rattle.snap_rows.specs.declared.tables.Tables.{Tables}
 use Rattle.snap_rows.specs.Entries.{rank_at}
-use Rattle.snap_rows.specs.Network.{Copy, Step}
+use Rattle.snap_rows.specs.Network.{Copy, RunsBy, Step, done, on}
 use Rattle.std.proofs.lemmas.Option.{same_Some}
 use Rattle.snap_net.specs.declared.flying.Flying.{Flying}
 use Rattle.snap_net.specs.Shown.{flown}
@@ -19,7 +19,7 @@ use Rattle.snap_order.specs.declared.hand.Stepped.{Stepped}
 use Rattle.snap_order.specs.Hands.{Agrees, SwitchState, StepsBy, StepsTo, WeavesTo, Works, idles, works, Woven, over, next, share}
 use Rattle.snap_order.specs.Ordered.{Ordered}
 use Rattle.snap_order.specs.Rounds.{takes}
-use Rattle.snap_order.specs.Rounds as rounds
+use Rattle.snap_order.specs.Rounds.{TakesNext, takes}
 
 -- ---- shares
 pub share_own : (workers j : ℕ) (c : Flying) (cs : List Flying) → c.at % workers ≡ j → share workers j (c ∷ cs) ≡ c ∷ share workers j cs
@@ -164,7 +164,7 @@ module _ (t : Tables) (workers : ℕ) (some_workers : 0 < workers) (busy : ℕ �
       state = w.state;
       events = Step i ∷ w.events;
       turns = step.turn ∷ w.turns;
-      round = takes step.leads counted w.round;
+      round = on (takes step.leads counted) w.round;
       told = (λ k. step.told_is k ∷ w.told k);
       flying = w.flying ∙ ap (λ l. map flown l ++ flat_map (λ (z : Stepped). z.left.items) xs) front_is
           ∙ ap (λ l. l ++ flat_map (λ (z : Stepped). z.left.items) xs) (map-append flown (take i s.net.flying) step.copies ∙ ap (λ l. map flown (take i s.net.flying) ++ l) step.left_is)
@@ -186,7 +186,7 @@ module _ (t : Tables) (workers : ℕ) (some_workers : 0 < workers) (busy : ℕ �
         state = s;
         events = [];
         turns = [];
-        round = rounds.ends (let a = length-drop i s.net.flying in let b : length (drop i s.net.flying) ≡ 0 = ap length empty in omega (arith, a, b, low));
+        round = (let a = length-drop i s.net.flying in let b : length (drop i s.net.flying) ≡ 0 = ap length empty in subst (λ j. RunsBy (TakesNext t) (i, s) [] (j, s) []) (omega (arith, a, b, low)) done);
         told = refl;
         flying = ap (map flown) (sym whole) ∙ sym (append-nil (map flown (take i s.net.flying)));
         injected = refl;

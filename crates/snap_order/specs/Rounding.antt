@@ -5,7 +5,7 @@ use Rattle.snap_rows.specs.declared.head.Head.{Head}
 use Rattle.snap_rows.specs.declared.head.Head.TheVariants.{Walk, Stage, Out, Visit}
 use Rattle.snap_rows.specs.declared.tables.Tables.{Tables}
 use Rattle.snap_rows.specs.Entries.{ranks}
-use Rattle.snap_rows.specs.Network.{Copy, Event}
+use Rattle.snap_rows.specs.Network.{Copy, Event, RunsBy}
 use Rattle.snap_rows.specs.Weight.{weight}
 use Rattle.snap_net.specs.declared.flying.Flying.{Flying}
 use Rattle.snap_runs.specs.Plain.{entering}
@@ -15,7 +15,7 @@ use Rattle.snap_net.specs.declared.happened.Moved.{Moved}
 use Rattle.snap_net.specs.declared.happened.Moved.TheVariants as bare
 use Rattle.snap_order.specs.Ordered.{Ordered, OrderedHappening, begin}
 use Rattle.snap_order.specs.Playing.{NotesTurn, Plays, left_in}
-use Rattle.snap_order.specs.Rounds.{GoesByRounds, IsRound, TakesFrom}
+use Rattle.snap_order.specs.Rounds.{GoesRound, IsRound, TakesNext}
 use Rattle.snap_order.specs.Serving.{StandsBefore}
 use Rattle.snap_order.specs.Shown.{OrderedNetView, RepresentsInOrder, told_of}
 use Rattle.snap_runs.specs.declared.tally.Tally.{Tally}
@@ -26,16 +26,15 @@ abbrev pub IsRoundDone : OrderedNetView → OrderedNetView → List Moved → Ty
 IsRoundDone old new done = (s : Ordered) → RepresentsInOrder old s → (s' : Ordered) × (es : List Event)
     × (us : List OrderedHappening) × IsRound old.net.tables s es s' us × RepresentsInOrder new s' × (done ≡ map told_of us)
 
--- the copies before a place have made their steps: what is done from there on makes a round
+-- the copies before a place have made their steps
 pub record HasRoundedTo (t : Tables) (s : Ordered) (place : ℕ) (now : OrderedNetView) (done : List Moved) : Type 0 where
   pub state : Ordered
   pub events : List Event
   pub turns : List OrderedHappening
+  pub run : RunsBy (TakesNext t) (0, s) events (place, state) turns
   pub shows : RepresentsInOrder now state
   pub told : done ≡ map told_of turns
   pub within : place ≤ length state.net.flying
-  pub on : (s' : Ordered) (es : List Event) (us : List OrderedHappening)
-      → TakesFrom t place state es s' us → IsRound t s (events ++ es) s' (turns ++ us)
 
 -- how many copies stand in the place of one after its step
 abbrev pub width : Moved → ℕ
@@ -110,16 +109,15 @@ abbrev pub toil : Tables → List Flying → ℕ
 toil t cs = sum_by (λ (c : Flying). weight t c.at c.head + ranks_left t c.head) cs
 
 -- ---- the schedule of rounds
--- some first packets were injected, each with a round behind it: what is done from there on makes a run by rounds
+-- the rounds of some first packets were made, and perhaps more
 pub record PlaysRounds (t : Tables) (hops : Bool) (ks : List (List ℕ)) (v : OrderedPlay) : Type 0 where
-  pub events : List Event
+  pub rounds : List (List Event)
   pub state : Ordered
   pub turns : List OrderedHappening
+  pub run : RunsBy (GoesRound t) (entering ks, begin t zero_arrays) rounds (entering (left_in v), state) turns
   pub plays : Plays t hops state turns v
   pub pace : KeepsPace t state
   pub injected : state.net.injected + length (left_in v) ≡ length ks
-  pub on : (es : List Event) (end : Ordered) (us : List OrderedHappening) → GoesByRounds t (entering (left_in v)) state es end us
-      → GoesByRounds t (entering ks) (begin t zero_arrays) (events ++ es) end (turns ++ us)
 
 abbrev pub IsPaced : OrderedPlay → Type 0
 IsPaced v = (ks : List (List ℕ)) × PlaysRounds v.net.net.tables v.hops ks v

@@ -1,11 +1,12 @@
 -- Rounds, in which each copy in flight makes a step, and the schedule that makes one after each injection.
-use Rattle.std.specs.Prelude.{◌≡◌, ◌≢◌, ℕ, ◌+◌, Bool, List, [], ◌∷◌, ◌++◌, length, Ok, Err}
+use Rattle.std.specs.Prelude.{◌≡◌, ◌≢◌, ℕ, ◌+◌, Bool, List, [], ◌∷◌, length, Ok, Err}
 use Rattle.std.specs.declared.option.Option.{Option}
+use Rattle.std.specs.List.{concat}
 use Rattle.std.specs.Io.KnownBytes.{Appends}
 use Rattle.snap_core.specs.Arrays.{zero_arrays}
 use Rattle.snap_io.specs.Sinks.{AppendsSome}
 use Rattle.snap_rows.specs.declared.tables.Tables.{Tables}
-use Rattle.snap_rows.specs.Network.{Event, Inject, Step}
+use Rattle.snap_rows.specs.Network.{Event, Inject, RunsBy, Step}
 use Rattle.snap_report.specs.declared.fault.TraceFault.TheVariants.{Write}
 use Rattle.snap_report.specs.OneSwitch.{RunEnding}
 use Rattle.snap_runs.specs.Plain.{entering, spelled_for}
@@ -13,27 +14,34 @@ use Rattle.snap_runs.specs.Schedules.{IsReadWhole, RefusesPackets}
 use Rattle.snap_order.specs.Ordered.{Ordered, OrderedHappening, LeadsInOrder, begin, happenings}
 use Rattle.snap_order.specs.Reports.{IsRunReport}
 
--- The copies from place i on make a step each, in the order of the list. The next of them stands behind all that a step leaves in its
--- copy's place, so what a fork puts there isn't taken.
-pub data TakesFrom (t : Tables) : ℕ → Ordered → List Event → Ordered → List OrderedHappening → Type 0 where
-  ends : {i : ℕ} {s : Ordered} → i ≡ length s.net.flying → TakesFrom t i s [] s []
-  takes : {i j : ℕ} {s s' s'' : Ordered} {es : List Event} {u us : List OrderedHappening}
-      → LeadsInOrder t s (Step i) s' u → j + length s.net.flying ≡ i + 1 + length s'.net.flying
-      → TakesFrom t j s' es s'' us → TakesFrom t i s (Step i ∷ es) s'' (u ++ us)
+-- In a round that has come to place i the copy there makes a step. The next to make one stands behind all that the step leaves in
+-- its copy's place, so what a fork puts there isn't taken.
+pub data TakesNext (t : Tables) : ℕ × Ordered → Event → ℕ × Ordered → List OrderedHappening → Type 0 where
+  takes : {i j : ℕ} {s s' : Ordered} {us : List OrderedHappening} → LeadsInOrder t s (Step i) s' us
+      → j + length s.net.flying ≡ i + 1 + length s'.net.flying → TakesNext t (i, s) (Step i) (j, s') us
+
+-- so the copies from place i on make a step each, in the order of the list
+abbrev pub TakesFrom : Tables → ℕ → Ordered → List Event → Ordered → List OrderedHappening → Type 0
+TakesFrom t i s es s' us = RunsBy (TakesNext t) (i, s) es (length s'.net.flying, s') us
 
 -- each copy in flight makes a step
 abbrev pub IsRound : Tables → Ordered → List Event → Ordered → List OrderedHappening → Type 0
 IsRound t s es s' us = TakesFrom t 0 s es s' us
 
--- The next packet is injected, where one is left, and then a round is made, again and again, until no packet is left and
--- nothing is in flight.
-pub data GoesByRounds (t : Tables) : List (ℕ × List ℕ) → Ordered → List Event → Ordered → List OrderedHappening → Type 0 where
-  rests : {s : Ordered} → s.net.flying ≡ [] → GoesByRounds t [] s [] s []
-  injects : {port : ℕ} {k : List ℕ} {ks : List (ℕ × List ℕ)} {s s' s'' end : Ordered} {es fs : List Event} {us vs : List OrderedHappening}
+-- The next packet is injected, where one is left, and then a round is made; where none is left, while a copy is in flight.
+pub data GoesRound (t : Tables) : List (ℕ × List ℕ) × Ordered → List Event → List (ℕ × List ℕ) × Ordered → List OrderedHappening → Type 0 where
+  injects : {port : ℕ} {k : List ℕ} {ks : List (ℕ × List ℕ)} {s s' s'' : Ordered} {es : List Event} {us : List OrderedHappening}
       → LeadsInOrder t s (Inject port k) s' [] → IsRound t s' es s'' us
-      → GoesByRounds t ks s'' fs end vs → GoesByRounds t ((port, k) ∷ ks) s (Inject port k ∷ (es ++ fs)) end (us ++ vs)
-  goes_on : {s s' end : Ordered} {es fs : List Event} {us vs : List OrderedHappening} → s.net.flying ≢ []
-      → IsRound t s es s' us → GoesByRounds t [] s' fs end vs → GoesByRounds t [] s (es ++ fs) end (us ++ vs)
+      → GoesRound t ((port, k) ∷ ks, s) (Inject port k ∷ es) (ks, s'') us
+  goes_on : {s s' : Ordered} {es : List Event} {us : List OrderedHappening} → s.net.flying ≢ []
+      → IsRound t s es s' us → GoesRound t ([], s) es ([], s') us
+
+-- so it goes, round by round, until no packet is left and nothing is in flight
+pub record GoesByRounds (t : Tables) (ks : List (ℕ × List ℕ)) (s : Ordered) (es : List Event) (end : Ordered) (us : List OrderedHappening) : Type 0 where
+  pub rounds : List (List Event)
+  pub run : RunsBy (GoesRound t) (ks, s) rounds ([], end) us
+  pub are : es ≡ concat rounds
+  pub rests : end.net.flying ≡ []
 
 -- from empty arrays the run of the round schedule of these packets has this report
 pub record IsRoundReport (t : Tables) (hops : Bool) (ks : List (List ℕ)) (text : List ℕ) : Type 0 where

@@ -1,21 +1,19 @@
 -- Packets have one report in a run with changes.
-use Rattle.std.proofs.Common.{◌≡◌, ℕ, ◌+◌, ◌<◌, Bool, List, [], ◌∷◌, ◌++◌, refl, sym, ap, subst, ◌∙◌, arith}
+use Rattle.std.proofs.Common.{◌≡◌, ℕ, ◌+◌, ◌<◌, Bool, List, [], ◌∷◌, ◌++◌, refl, sym, ap, subst, ◌∙◌, ⊎_elim, append-nil, arith}
 use Rattle.std.specs.Prelude.{slice_index}
 use Rattle.std.proofs.lemmas.List.Elements.{All-cons, All-head, All-tail}
-use Rattle.snap_core.specs.Arrays.{zero_arrays}
 use Rattle.snap_core.specs.Listing.{IsListing}
 use Rattle.snap_rows.specs.declared.tables.Tables.{Tables}
 use Rattle.snap_rows.specs.Form.{IsWellFormed}
-use Rattle.snap_rows.specs.Network.{Net, Event, Inject, Happening, Leads, StepsFirst, start, global_store}
-use Rattle.snap_rows.proofs.Runs.{sequential-one}
+use Rattle.snap_rows.specs.Network.{Net, Event, Inject, Happening, Leads, RunsBy, StepsFirst, done, on, global_store}
+use Rattle.snap_rows.proofs.Runs.{GoesOneWay, IsEnd, runs-end, runs-on, sequential-one}
 use Rattle.snap_report.specs.Reports.{end_text}
 use Rattle.snap_runs.specs.declared.frames.Frames.TheVariants.{Plain}
 use Rattle.snap_runs.specs.Reports.{array_names}
-use Rattle.snap_runs.specs.Tracing.{changed}
 use Rattle.snap_runs.proofs.OneReport.{block_one, listings_one}
 use Rattle.snap_runs.proofs.OneRun.{leads_one, steps_copies}
 use Rattle.snap_runs.specs.declared.later.Later.{Later}
-use Rattle.snap_runs.specs.Changing.{AreBlocksFrom, GoesThrough, IsAhead, RunsThrough, Passage, rests, changes, goes}
+use Rattle.snap_runs.specs.Changing.{AreBlocksFrom, Between, GoesThrough, IsAhead, Passage, RunsThrough, TakesTurn, Turn, changes, goes}
 use Rattle.snap_refinement.specs.ChangeLaws.{AreWellFormed, ChangedBlocksAreOne, ChangedReportsAreOne}
 
 -- ---- one packet
@@ -27,45 +25,43 @@ goes_one t form k s n n' hs hs' a b =
     (r.1, r.2)
 
 -- ---- the run
-no_turns : {end : Tables} {left : List Later} {last : Net} {t : Tables} {ls : List Later} {s : Net} {ks : List (List ℕ)} {turns : List Passage} → RunsThrough end left last t ls s ks turns → ks ≡ [] → turns ≡ []
-no_turns rests none = refl
-no_turns (changes due on) none = no_turns on none
-no_turns (goes {k = k} {ks = ks} ahead through on) none = let e : ◌≡◌ {A = List (List ℕ)} (k ∷ ks) [] = none in absurd (cc)
-
--- both runs have come to the same
-record Same (end end' : Tables) (left left' : List Later) (last last' : Net) (turns turns' : List Passage) : Type 0 where
-  turns_same : turns ≡ turns'
-  ends : IsAhead left last.injected → IsAhead left' last'.injected → (end ≡ end') × (last ≡ last')
-
+-- no change is due where one comes later
 never : (l : Later) (ls : List Later) (n : ℕ) → l.after ≡ n → IsAhead (l ∷ ls) n → ⊥
 never l ls n due ahead = absurd (let h : n < l.after = ahead in omega (arith, due, h))
 
-module _ (end' : Tables) (left' : List Later) (last' : Net) where
-  through_one : {end : Tables} {left : List Later} {last : Net} {t : Tables} {ls : List Later} {s : Net} {ks : List (List ℕ)} {turns : List Passage} → AreWellFormed t ls → RunsThrough end left last t ls s ks turns
-      → (t' : Tables) (ls' : List Later) (s' : Net) (ks' : List (List ℕ)) → t ≡ t' → ls ≡ ls' → s ≡ s' → ks ≡ ks' → {xs : List Passage} → RunsThrough end' left' last' t' ls' s' ks' xs → Same end end' left left' last last' turns xs
-  through_one form rests t' ls' s' ks' et el es ek rests = record { turns_same = refl; ends = λ a b. (et, es) }
-  through_one {last = last} form rests t' ls' s' ks' et el es ek (changes {l = l} {ls = ls} {s = s} due on) =
-      record { turns_same = sym (no_turns on (sym ek)); ends = λ a b. absurd (never l ls s.injected due (subst (λ x. IsAhead (l ∷ ls) x.injected) es (subst (λ x. IsAhead x last.injected) el a))) }
-  through_one form (changes {l = l} {ls = ls} {s = s} due on) t' ls' s' ks' et el es ek rests =
-      record { turns_same = no_turns on ek; ends = λ a b. absurd (never l ls s.injected due (subst (λ (x : Net). IsAhead (l ∷ ls) x.injected) (sym es) (subst (λ x. IsAhead x s'.injected) (sym el) b))) }
-  through_one form rests t' ls' s' ks' et el es ek (goes {k = k} {ks = ks} ahead through on) = let e : ◌≡◌ {A = List (List ℕ)} [] (k ∷ ks) = ek in absurd (cc)
-  through_one form (changes {t = t} {l = l} {ls = ls} {s = s} due on) t' ls' s' ks' et el es ek (changes {l = l'} {ls = ms} due' on') =
-      let first : l ≡ l' = cc in
-      let others : ls ≡ ms = cc in
-      through_one (All-head (λ (x : Later). IsWellFormed x.tables) l ls form.1, All-tail (λ (x : Later). IsWellFormed x.tables) l ls form.1) on l'.tables ms (changed l'.tables t' s') ks'
-      (ap (λ (x : Later). x.tables) first) others (λ i. changed (first i).tables (et i) (es i)) ek on'
-  through_one form (changes {l = l} {ls = ls} {s = s} due on) t' ls' s' ks' et el es ek (goes ahead through on') =
-      absurd (never l ls s.injected due (subst (λ (x : Net). IsAhead (l ∷ ls) x.injected) (sym es) (subst (λ x. IsAhead x s'.injected) (sym el) ahead)))
-  through_one form (goes {k = k} {ks = ks} ahead through on) t' ls' s' ks' et el es ek rests = let e : ◌≡◌ {A = List (List ℕ)} (k ∷ ks) [] = ek in absurd (cc)
-  through_one form (goes {ls = ls} {s = s} ahead through on) t' ls' s' ks' et el es ek (changes {l = l} {ls = ms} due on') =
-      absurd (never l ms s'.injected due (subst (λ (x : Net). IsAhead (l ∷ ms) x.injected) es (subst (λ x. IsAhead x s.injected) el ahead)))
-  through_one form (goes {t = t} {ls = ls} {s = s} {s' = n} {k = k} {ks = ks} {hs = hs} ahead through on) t' ls' s' ks' et el es ek (goes {s' = n'} {k = k'} {ks = ms} {hs = hs'} ahead' through' on') =
-      let packet : k ≡ k' = cc in
-      let others : ks ≡ ms = cc in
-      let again : GoesThrough t k s n' hs' = subst (λ x. GoesThrough x k s n' hs') (sym et) (subst (λ x. GoesThrough t' x s n' hs') (sym packet) (subst (λ x. GoesThrough t' k' x n' hs') (sym es) through')) in
-      let one = goes_one t form.0 k s n n' hs hs' through again in
-      let rest = through_one form on t' ls' n' ms et el one.0 others on' in
-      record { turns_same = λ i. record { tables = et i; happenings = one.1 i } ∷ rest.turns_same i; ends = rest.ends }
+abbrev HaveForm : Between → Type 0
+HaveForm b = AreWellFormed b.tables b.later
+
+turn_one : GoesOneWay TakesTurn HaveForm
+turn_one b e e' n n' h h' form (changes {l = l} {ls = ls} due) (changes due') = (refl, refl, refl, (All-head (λ (x : Later). IsWellFormed x.tables) l ls form.1, All-tail (λ (x : Later). IsWellFormed x.tables) l ls form.1))
+turn_one b e e' n n' h h' form (changes {l = l} {ls = ls} {s = s} due) (goes ahead through) = absurd (never l ls s.injected due ahead)
+turn_one b e e' n n' h h' form (goes ahead through) (changes {l = l} {ls = ls} {s = s} due) = absurd (never l ls s.injected due ahead)
+turn_one b e e' n n' h h' form (goes {k = k} {ks = ks} {t = t} {ls = ls} {s = s} {s' = s1} {hs = hs} ahead through) (goes {s' = s2} {hs = hs'} ahead' through') =
+    let one = goes_one t form.0 k s s1 s2 hs hs' through through' in
+    (refl, (λ i. record { packets = ks; tables = t; later = ls; net = one.0 i }), (λ i. record { tables = t; happenings = one.1 i } ∷ []), form)
+
+-- where no packet is left nothing more is told, and where no change is due nothing more is done
+no_turns : {b n : Between} {es : List Turn} {turns : List Passage} → RunsBy TakesTurn b es n turns → b.packets ≡ [] → turns ≡ []
+no_turns done none = refl
+no_turns (on (changes due) rest) none = no_turns rest none
+no_turns (on (goes {k = k} {ks = ks} ahead through) rest) none = let e : ◌≡◌ {A = List (List ℕ)} (k ∷ ks) [] = none in absurd (cc)
+
+all_through : (t : Tables) (ls : List Later) (s : Net) → IsAhead ls s.injected → IsEnd TakesTurn (record { packets = []; tables = t; later = ls; net = s })
+all_through t ls s ahead e n h (changes {l = l} {ls = later} due) = absurd (never l later s.injected due ahead)
+
+-- packets go through one way
+module _ {end end' : Tables} {left left' : List Later} {last last' : Net} {t : Tables} {ls : List Later} {s : Net} {ks : List (List ℕ)} {turns turns' : List Passage}
+    (form : AreWellFormed t ls) (a : RunsThrough end left last t ls s ks turns) (b : RunsThrough end' left' last' t ls s ks turns') where
+  turns_one : turns ≡ turns'
+  turns_one = ⊎_elim
+      (λ x. sym (x.4 ∙ ap (λ l. turns ++ l) (no_turns x.2 refl) ∙ append-nil turns))
+      (λ x. x.4 ∙ ap (λ l. turns' ++ l) (no_turns x.2 refl) ∙ append-nil turns')
+      (runs-on TakesTurn HaveForm turn_one form a.1 b.1)
+
+  ends_one : IsAhead left last.injected → IsAhead left' last'.injected → (end ≡ end') × (last ≡ last')
+  ends_one ahead ahead' =
+      let one = runs-end TakesTurn HaveForm turn_one form a.1 b.1 (all_through end left last ahead) (all_through end' left' last' ahead') in
+      (ap (λ (x : Between). x.tables) one.1, ap (λ (x : Between). x.net) one.1)
 
 -- ---- blocks
 blocks_one : (hops : Bool) (i : ℕ) (turns : List Passage) (a b : List ℕ) → AreBlocksFrom hops i turns a → AreBlocksFrom hops i turns b → a ≡ b
@@ -77,8 +73,7 @@ blocks_one hops i (t ∷ ts) a b x y =
 
 pub changed_blocks_one : ChangedBlocksAreOne
 changed_blocks_one first later form hops ks a b x y =
-    let one = through_one y.end y.left y.state form x.run first later (start first zero_arrays) ks refl refl refl refl y.run in
-    blocks_one hops 0 x.turns a b x.blocks (subst (λ turns. AreBlocksFrom hops 0 turns b) (sym one.turns_same) y.blocks)
+    blocks_one hops 0 x.turns a b x.blocks (subst (λ turns. AreBlocksFrom hops 0 turns b) (sym (turns_one form x.run y.run)) y.blocks)
 
 pub changed_reports_one : ChangedReportsAreOne
 changed_reports_one first later form hops ks a b v w =
@@ -86,8 +81,7 @@ changed_reports_one first later form hops ks a b v w =
     let y = w.ran in
     let r = v.report in
     let q = w.report in
-    let one = through_one y.end y.left y.state form x.run first later (start first zero_arrays) ks refl refl refl refl y.run in
-    let ends = one.ends x.ahead y.ahead in
-    let blocks = blocks_one hops 0 x.turns r.blocks q.blocks r.are (subst (λ turns. AreBlocksFrom hops 0 turns q.blocks) (sym one.turns_same) q.are) in
+    let ends = ends_one form x.run y.run x.ahead y.ahead in
+    let blocks = blocks_one hops 0 x.turns r.blocks q.blocks r.are (subst (λ turns. AreBlocksFrom hops 0 turns q.blocks) (sym (turns_one form x.run y.run)) q.are) in
     let entries = listings_one (global_store x.end x.state) r.entries q.entries r.listed (subst (λ m. IsListing m q.entries) (λ i. global_store (sym ends.0 i) (sym ends.1 i)) q.listed) in
     r.is ∙ (λ i. blocks i ++ end_text (array_names (ends.0 i)) (entries i)) ∙ sym q.is

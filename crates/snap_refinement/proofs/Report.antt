@@ -39,8 +39,8 @@ no_numbers t = record { numbers = λ q. lit< tt; only = λ q above. refl }
 
 module _ (programs : ℕ → Program) (P : Program → Passage → Type 0) (each : IsOfRuns P) (first : Tables) (later : List Later) (faithful : AreFaithfulTo programs first later) (shapes : HaveShapeOf first later) (rising : IsRising later)
     (ks : List (List ℕ)) (packets : All (IsPacket (count first.fields)) ks) where
-  at_start : (end : Tables) (left : List Later) (last : Net) → Stands programs P each first end left last first later (start first zero_arrays) ks zero_arrays
-  at_start end left last = record {
+  at_start : Stands programs P each first first later (start first zero_arrays) ks zero_arrays
+  at_start = record {
     faithful = λ i low. faithful i;
     same = shape-same first;
     others = shapes;
@@ -54,7 +54,7 @@ module _ (programs : ℕ → Program) (P : Program → Passage → Type 0) (each
   }
 
   from_zero : (end : Tables) (left : List Later) (last : Net) (turns : List Passage) → RunsThrough end left last first later (start first zero_arrays) ks turns → ActsAsOne programs P first zero_arrays ks 0 (in_force first later) turns end last
-  from_zero end left last turns run = acts_as_one programs P each first end left last run zero_arrays (at_start end left last)
+  from_zero end left last turns run = acts_as_one programs P each first run zero_arrays at_start
 
 -- ---- names
 -- the tables that are in force have the shape of the first

@@ -15,14 +15,14 @@ use Rattle.snap_core.specs.Switch.{Switched}
 use Rattle.snap_rows.specs.declared.tables.ArrayAt.{ArrayAt}
 use Rattle.snap_rows.specs.declared.tables.Tables.{Tables}
 use Rattle.snap_rows.specs.Entries.{owner_of}
-use Rattle.snap_rows.specs.Network.{Net, Event, Happening, Run, Inject, packets_of, start, global_store}
+use Rattle.snap_rows.specs.Network.{Net, Event, Happening, Run, RunsBy, Inject, done, on, packets_of, start, global_store}
 use Rattle.snap_faithful.specs.Agreement.{CameOut}
 use Rattle.snap_faithful.specs.Faithful.{IsPacketOf, IsStoreOf}
 use Rattle.snap_refinement.proofs.Entered.{IsOfProgram}
 use Rattle.snap_runs.specs.Reports.{array_names}
 use Rattle.snap_runs.specs.Tracing.{changed}
 use Rattle.snap_runs.specs.declared.later.Later.{Later}
-use Rattle.snap_runs.specs.Changing.{HaveShapeOf, IsAhead, IsRising, RunsThrough, Passage, in_force, rests, changes, goes}
+use Rattle.snap_runs.specs.Changing.{Between, HaveShapeOf, IsAhead, IsRising, Passage, RunsThrough, TakesTurn, Turn, in_force, changes, goes}
 use Rattle.snap_refinement.specs.ChangeLaws.{IsFaithfulTo}
 use Rattle.snap_runs.specs.Moving.{IsFrom}
 use Rattle.snap_runs.specs.Shapes.{HaveOneShape}
@@ -90,7 +90,7 @@ module _ (programs : ℕ → Program) (P : Program → Passage → Type 0) where
     pub whole_is : (q : Place) → global_store end last q ≡ made.arrays q
     pub names : array_names end ≡ array_names shape
 
-  module _ (each : IsOfRuns P) (shape end : Tables) (left : List Later) (last : Net) where
+  module _ (each : IsOfRuns P) (shape : Tables) where
     -- where a run stands between two packets
     pub record Stands (t : Tables) (ls : List Later) (s : Net) (ks : List (List ℕ)) (m : Arrays) : Type 0 where
       pub faithful : (i : ℕ) → s.injected ≤ i → IsFaithfulTo (programs i) (in_force t ls i)
@@ -160,16 +160,16 @@ module _ (programs : ℕ → Program) (P : Program → Passage → Type 0) where
         packets = All-tail (IsPacket (count shape.fields)) k ks a.packets;
       }
 
-    pub acts_as_one : {t : Tables} {ls : List Later} {s : Net} {ks : List (List ℕ)} {turns : List Passage} → RunsThrough end left last t ls s ks turns → (m : Arrays) → Stands t ls s ks m → ActsAsOne shape m ks s.injected (in_force t ls) turns end last
-    acts_as_one rests m a = record {
+    acts_on : {b n : Between} {es : List Turn} {turns : List Passage} → RunsBy TakesTurn b es n turns → n.packets ≡ [] → (m : Arrays) → Stands b.tables b.later b.net b.packets m → ActsAsOne shape m b.packets b.net.injected (in_force b.tables b.later) turns n.tables n.net
+    acts_on {n = n} done none m a = subst (λ ks. ActsAsOne shape m ks n.net.injected (in_force n.tables n.later) [] n.tables n.net) (sym none) (record {
       made = record { packets = []; arrays = m };
       switched = refl;
       came = tt;
       whole_is = a.whole_is;
       names = a.same.names;
-    }
-    acts_as_one (changes {t = t} {l = l} {ls = ls} {s = s} {ks = ks} {turns = turns} due on) m a =
-        let rest = acts_as_one on m (changed_on t l ls s ks m due a) in
+    })
+    acts_on (on {hs = turns} (changes {ks = ks} {t = t} {l = l} {ls = ls} {s = s} due) more_turns) none m a =
+        let rest = acts_on more_turns none m (changed_on t l ls s ks m due a) in
         record {
           made = rest.made;
           switched = rest.switched;
@@ -177,14 +177,14 @@ module _ (programs : ℕ → Program) (P : Program → Passage → Type 0) where
           whole_is = rest.whole_is;
           names = rest.names;
         }
-    acts_as_one (goes {t = t} {ls = ls} {s = s} {s' = s'} {k = k} {ks = ks} {hs = hs} {turns = turns} ahead through on) m a =
+    acts_on (on {hs = turns} (goes {k = k} {ks = ks} {t = t} {ls = ls} {s = s} {s' = s'} {hs = hs} ahead through) more_turns) none m a =
         let one : length (packets_of (Inject (slice_index k 0) k ∷ through.events)) ≡ 1 = ap (λ (l : List (ℕ × List ℕ)). length ((slice_index k 0, k) ∷ l)) through.no_packets in
         let more : s'.injected ≡ s.injected + 1 = counts t through.run ∙ ap (λ x. s.injected + x) one in
         let now : Program = programs s.injected in
         let f = faithful_now t ls s k ks m ahead a in
         let store = store_now t ls s k ks m ahead a in
         let x = acts now t f m store k (packet_now t ls s k ks m ahead a) s s' hs a.stores a.rests through more in
-        let rest = acts_as_one on x.outcome.arrays (gone_on t ls s k ks m ahead a s' hs x through.rests) in
+        let rest = acts_on more_turns none x.outcome.arrays (gone_on t ls s k ks m ahead a s' hs x through.rests) in
         record {
           made = record { packets = x.outcome.packets ∷ rest.made.packets; arrays = rest.made.arrays };
           switched = changing_first programs s.injected m k ks x.outcome rest.made x.is (subst (λ i. changing_switch programs i x.outcome.arrays ks ≡ Some rest.made) more rest.switched);
@@ -198,3 +198,6 @@ module _ (programs : ℕ → Program) (P : Program → Passage → Type 0) where
           whole_is = rest.whole_is;
           names = rest.names;
         }
+
+    pub acts_as_one : {end : Tables} {left : List Later} {last : Net} {t : Tables} {ls : List Later} {s : Net} {ks : List (List ℕ)} {turns : List Passage} → RunsThrough end left last t ls s ks turns → (m : Arrays) → Stands t ls s ks m → ActsAsOne shape m ks s.injected (in_force t ls) turns end last
+    acts_as_one run m a = acts_on run.1 refl m a

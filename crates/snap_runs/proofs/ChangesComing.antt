@@ -7,7 +7,7 @@ use Rattle.snap_io.specs.Sinks.{AppendsSome}
 use Rattle.snap_io.proofs.OutputLemmas.{waits-first, waits-same}
 use Rattle.snap_rows.specs.declared.tables.Tables.{Tables}
 use Rattle.snap_rows.specs.Entries.{port_at}
-use Rattle.snap_rows.specs.Network.{start}
+use Rattle.snap_rows.specs.Network.{done, start}
 use Rattle.snap_net.specs.Shown.{Represents}
 use Rattle.snap_report.specs.declared.fault.TraceFault.{TraceFault}
 use Rattle.snap_report.specs.declared.fault.TraceFault.TheVariants.{Read, Write, Limit, Packets, Undefined, NoMemory}
@@ -27,7 +27,7 @@ use Rattle.snap_runs.proofs.Closing.{writes-as}
 use Rattle.snap_runs.proofs.Readers.{accepted-ports}
 use Rattle.snap_runs.specs.declared.later.Later.{Later}
 use Rattle.snap_runs.specs.declared.mover.Mover.{Mover}
-use Rattle.snap_runs.specs.Changing.{AreChangedBlocks, IsAhead, IsChangedReport, Passage, in_force, rests}
+use Rattle.snap_runs.specs.Changing.{AreChangedBlocks, IsAhead, IsChangedReport, Passage, in_force}
 use Rattle.snap_runs.specs.ChangedFiles.{AreChangedTraceBlocks, EndsAsRead, WritesChanged, spelled_under}
 use Rattle.snap_runs.specs.Moving.{HasSettled, IsSettled, Stands, StandsBehind, left_in}
 use Rattle.snap_runs.proofs.ChangesSettling.{force-now, shape-same, stands-taken}
@@ -37,7 +37,7 @@ use Rattle.snap_runs.proofs.Through.{blocks-push}
 stands-first : (m : Mover) → Represents m.tracer.net (start m.tracer.net.tables zero_arrays) → Stands m.tracer.net.tables (left_in m) [] [] m
 stands-first m shows = record {
   state = start m.tracer.net.tables zero_arrays;
-  run = rests;
+  run = ([], done);
   shows = shows;
   rests = refl;
   injected = refl;
@@ -60,7 +60,7 @@ behind-first first m shows plain settled same kind = record {
 pub none-written : (first : Tables) (later : List Later) (hops : Bool) (file : List ℕ) (out : Option (List ℕ)) → AppendsSome (AreChangedTraceBlocks first later hops file) out out
 none-written first later hops file out = (
   [],
-  (0, record { end = first; left = later; state = start first zero_arrays; turns = []; run = rests; blocks = refl }),
+  (0, record { end = first; left = later; state = start first zero_arrays; turns = []; run = ([], done); blocks = refl }),
   (0, Appends-nil out),
 )
 

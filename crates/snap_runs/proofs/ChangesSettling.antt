@@ -8,13 +8,13 @@ use Rattle.snap_core.specs.Arrays.{zero_arrays}
 use Rattle.snap_rows.specs.declared.tables.ArrayAt.{ArrayAt}
 use Rattle.snap_rows.specs.declared.tables.Tables.{Tables}
 use Rattle.snap_rows.specs.Form.{array_count}
-use Rattle.snap_rows.specs.Network.{Net, start}
+use Rattle.snap_rows.specs.Network.{Net, done, on, start}
 use Rattle.snap_net.specs.Shown.{Represents}
 use Rattle.snap_runs.specs.declared.frames.Frames.TheVariants.{Plain}
 use Rattle.snap_runs.specs.Tracing.{HasTaken, changed}
 use Rattle.snap_runs.specs.declared.later.Later.{Later}
 use Rattle.snap_runs.specs.declared.mover.Mover.{Mover}
-use Rattle.snap_runs.specs.Changing.{GoesThrough, HaveShapeOf, IsAhead, IsRising, RunsThrough, Passage, in_force, rests, changes, goes}
+use Rattle.snap_runs.specs.Changing.{GoesThrough, HaveShapeOf, IsAhead, IsRising, RunsThrough, Passage, in_force, Changes, Passes, changes, goes}
 use Rattle.snap_runs.specs.Moving.{HasSettled, IsFrom, IsNotDue, IsSettled, Keeps, Stands, left_in}
 use Rattle.snap_runs.specs.Shapes.{HaveOneShape}
 use Rattle.snap_runs.proofs.Through.{through-then}
@@ -92,7 +92,7 @@ module _ (old new : Mover) (l : Later) (is : old.later.items ≡ new.later.items
         let ls = left_in new in
         let s' = changed l.tables t stands.state in
         let before : RunsThrough t (l ∷ ls) stands.state first later (start first zero_arrays) packets turns = subst (λ x. RunsThrough t x stands.state first later (start first zero_arrays) packets turns) left stands.run in
-        let step : RunsThrough l.tables ls s' t (l ∷ ls) stands.state [] [] = changes (due ∙ sym stands.shows.injected) rests in
+        let step : RunsThrough l.tables ls s' t (l ∷ ls) stands.state [] [] = (Changes ∷ [], on (changes (due ∙ sym stands.shows.injected)) done) in
         let run : RunsThrough l.tables ls s' first later (start first zero_arrays) (packets ++ []) (turns ++ []) = through-then l.tables ls s' [] [] before step in
         record {
           state = s';
@@ -121,7 +121,7 @@ module _ (old new : Mover) (later_same : new.later.items ≡ old.later.items) (t
       let turn : Passage = record { tables = t; happenings = taken.happenings } in
       let through : GoesThrough t k stands.state taken.state taken.happenings = record { events = taken.events; no_packets = taken.no_packets; first = taken.first; run = taken.run; rests = taken.rests } in
       let ahead : IsAhead ls stands.state.injected = subst (IsAhead ls) (sym stands.shows.injected) settled in
-      let step : RunsThrough t ls taken.state t ls stands.state (k ∷ []) (turn ∷ []) = goes ahead through rests in
+      let step : RunsThrough t ls taken.state t ls stands.state (k ∷ []) (turn ∷ []) = (Passes k ∷ [], on (goes ahead through) done) in
       let run = through-then t ls taken.state (k ∷ []) (turn ∷ []) stands.run step in
       let longer : length (packets ++ k ∷ []) ≡ length packets + 1 = length-append packets (k ∷ []) in
       let more : length (turns ++ turn ∷ []) ≡ length turns + 1 = length-append turns (turn ∷ []) in

@@ -5,7 +5,7 @@ use Rattle.snap_core.specs.declared.place.Entry.{Entry}
 use Rattle.snap_core.specs.Arrays.{zero_arrays}
 use Rattle.snap_core.specs.Listing.{IsListing}
 use Rattle.snap_rows.specs.declared.tables.Tables.{Tables}
-use Rattle.snap_rows.specs.Network.{Net, Event, Inject, Happening, RunsSequentially, StepsFirst, packets_of, start, global_store}
+use Rattle.snap_rows.specs.Network.{Net, Event, Inject, Happening, RunsBy, RunsSequentially, StepsFirst, packets_of, start, global_store}
 use Rattle.snap_report.specs.Reports.{end_text}
 use Rattle.snap_runs.specs.Reports.{IsBlock, array_names}
 use Rattle.snap_runs.specs.Tracing.{changed}
@@ -46,17 +46,34 @@ pub record Passage : Type 0 where
   pub tables : Tables
   pub happenings : List Happening
 
--- From tables in force, changes to come and a state with nothing in flight, these packets go through one after another,
--- up to these last ones. A change is made as soon as so many packets have finished: then the network holds the same whole
--- store over the new tables.
-pub data RunsThrough (end : Tables) (left : List Later) (last : Net) : Tables → List Later → Net → List (List ℕ) → List Passage → Type 0 where
-  rests : RunsThrough end left last end left last [] []
-  changes : {t : Tables} {l : Later} {ls : List Later} {s : Net} {ks : List (List ℕ)} {turns : List Passage} → l.after ≡ s.injected
-      → RunsThrough end left last l.tables ls (changed l.tables t s) ks turns → RunsThrough end left last t (l ∷ ls) s ks turns
-  goes : {t : Tables} {ls : List Later} {s s' : Net} {k : List ℕ} {ks : List (List ℕ)} {hs : List Happening} {turns : List Passage}
-      → IsAhead ls s.injected
-      → GoesThrough t k s s' hs → RunsThrough end left last t ls s' ks turns
-      → RunsThrough end left last t ls s (k ∷ ks) (record { tables = t; happenings = hs } ∷ turns)
+-- between two packets: the packets that are left, the tables in force, the changes to come, and the network with nothing in flight
+pub record Between : Type 0 where
+  pub packets : List (List ℕ)
+  pub tables : Tables
+  pub later : List Later
+  pub net : Net
+
+-- what comes next
+pub data Turn : Type 0 where
+  Changes : Turn
+  Passes : List ℕ → Turn
+
+-- A change is made as soon as so many packets have finished: then the network holds the same whole store over the new tables.
+-- Where none is due the next packet goes through.
+pub data TakesTurn : Between → Turn → Between → List Passage → Type 0 where
+  changes : {ks : List (List ℕ)} {t : Tables} {l : Later} {ls : List Later} {s : Net} → l.after ≡ s.injected
+      → TakesTurn (record { packets = ks; tables = t; later = l ∷ ls; net = s }) Changes
+      (record { packets = ks; tables = l.tables; later = ls; net = changed l.tables t s }) []
+  goes : {k : List ℕ} {ks : List (List ℕ)} {t : Tables} {ls : List Later} {s s' : Net} {hs : List Happening} → IsAhead ls s.injected
+      → GoesThrough t k s s' hs
+      → TakesTurn (record { packets = k ∷ ks; tables = t; later = ls; net = s }) (Passes k)
+      (record { packets = ks; tables = t; later = ls; net = s' }) (record { tables = t; happenings = hs } ∷ [])
+
+-- so these packets go through one after another, up to these last tables, changes to come and state
+abbrev pub RunsThrough : (end : Tables) → (left : List Later) → (last : Net) → Tables → List Later → Net → List (List ℕ) → List Passage → Type 0
+RunsThrough end left last t ls s ks turns = (es : List Turn)
+    × RunsBy TakesTurn (record { packets = ks; tables = t; later = ls; net = s }) es
+    (record { packets = []; tables = end; later = left; net = last }) turns
 
 -- ---- reports
 -- the blocks of packets, of which the first has this number, counted from 0; the switches of each are named by the tables then in force
