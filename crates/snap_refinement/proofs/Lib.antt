@@ -15,3 +15,4 @@ pub mod Once
 pub mod WithoutHops
 pub mod Lines
 pub mod InForce
+pub mod SwitchRuns

@@ -4,3 +4,4 @@ pub mod InOrder
 pub mod ChangingSwitch
 pub mod InForce
 pub mod ChangeLaws
+pub mod SwitchRuns

@@ -2,6 +2,7 @@
 
 ghost use Rattle.snap_refinement.specs.InOrder.{InOrderItIsTheReport, SingleOwnerRunsReportInForkOrder, OrdersHaveOneReport, TheReportIsInOrder};
 ghost use Rattle.snap_refinement.specs.Laws.{SequentialRunsReportOneSwitch, PlainRunsAreShort, PlainRunsReportOneSwitch, RunsAreShort};
+ghost use Rattle.snap_refinement.specs.SwitchRuns.{OneSwitchRuns};
 
 use snap_core::laws::has_one_listing;
 
@@ -33,4 +34,10 @@ pub fn orders_have_one_report()
 pub fn runs_are_short()
     ensures all { RunsAreShort }
     ensures plain { PlainRunsAreShort }
+{}
+
+/// One big switch is a system of transitions like the network, whose states are arrays alone: what it makes of packets is
+/// where its run leads, and what that tells.
+pub fn one_big_switch_runs()
+    ensures { OneSwitchRuns }
 {}
