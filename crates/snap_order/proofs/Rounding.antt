@@ -1,7 +1,7 @@
 -- How a run by rounds goes on, and its report.
 use Rattle.std.proofs.Common.{◌≡◌, ◌≢◌, ℕ, suc, ◌+◌, ◌<◌, Bool, true, List, [], ◌∷◌, ◌++◌, Some, length, map, reverse, refl, sym, ap, subst, ◌∙◌, arith}
 use Rattle.std.specs.Prelude.{slice_get, slice_index}
-use Rattle.std.specs.List.{All, concat}
+use Rattle.std.specs.List.{All}
 use Rattle.std.proofs.lemmas.Option.{none-some}
 use Rattle.snap_core.specs.Arrays.{zero_arrays}
 use Rattle.snap_rows.specs.declared.tables.Tables.{Tables}
@@ -22,7 +22,7 @@ use Rattle.snap_order.specs.Ordered.{Ordered, OrderedHappening, LeadsInOrder, be
 use Rattle.snap_order.specs.Playing.{NumberIsBelow, Plays, left_in}
 use Rattle.snap_order.specs.Reports.{IsRunReport}
 use Rattle.snap_order.specs.Rounding.{AreThere, HasRounded, IsPaced, IsRoundDone, NoteTurns, PlaysRounds, toil}
-use Rattle.snap_order.specs.Rounds.{GoesRound, injects, goes_on, IsRound, IsRoundReport}
+use Rattle.snap_order.specs.Rounds.{GoesRound, IsRound, IsRoundReport, events_of, goes_on, injects}
 use Rattle.snap_order.specs.Shown.{IsOrderedNetView, OrderedNetView, RepresentsInOrder, told_of}
 use Rattle.snap_order.proofs.Placed.{IsLong, Placed, long_shown, placed_shown}
 use Rattle.snap_order.proofs.Rounds.{injects_one, round_injected, round_numbers, tallied_round, told_below}
@@ -173,7 +173,7 @@ module _ (old new : OrderedPlay) (held : IsNetView old.net.net) (ordered : IsOrd
 pub round_report : (t : Tables) (hops : Bool) (ks : List (List ℕ)) (v : OrderedPlay) (text : List ℕ) (p : PlaysRounds t hops ks v) → left_in v ≡ [] → v.net.net.flying ≡ [] → IsRunReport t hops p.state.net.injected p.state.net (happenings p.turns) text
     → IsRoundReport t hops ks text
 round_report t hops ks v text p left rested report = record {
-  events = concat p.rounds;
+  events = events_of p.rounds;
   end = p.state;
   turns = p.turns;
   run = record {

@@ -1,6 +1,6 @@
 -- Rounds, and runs by rounds.
 use Rattle.std.proofs.Common.{◌≡◌, ℕ, ◌+◌, ◌<◌, Bool, List, [], ◌∷◌, ◌++◌, map, refl, sym, ap, subst, ◌∙◌, append-nil, append_assoc}
-use Rattle.std.specs.List.{All, concat}
+use Rattle.std.specs.List.{All}
 use Rattle.std.proofs.lemmas.List.Elements.{All-append, All-cons, All-nil}
 use Rattle.snap_rows.specs.declared.tables.Tables.{Tables}
 use Rattle.snap_rows.specs.Form.{comps}
@@ -15,7 +15,7 @@ use Rattle.snap_net.specs.declared.happened.Moved.{Moved}
 use Rattle.snap_order.specs.Ordered.{Ordered, OrderedHappening, LeadsInOrder, RunsInOrder, happenings, injects as injecting}
 use Rattle.snap_order.specs.Playing.{NotesTurn, NumberIsBelow}
 use Rattle.snap_order.specs.Rounding.{NoteTurns, no_notes, notes, width}
-use Rattle.snap_order.specs.Rounds.{GoesByRounds, GoesRound, injects, goes_on, TakesNext, takes}
+use Rattle.snap_order.specs.Rounds.{GoesByRounds, GoesRound, TakesNext, events_of, goes_on, injects, takes}
 use Rattle.snap_order.specs.Shown.{told_of}
 use Rattle.snap_order.proofs.Overlap.{happenings_more}
 use Rattle.snap_order.proofs.Placed.{IsLong, Placed, step_keeps_long, step_placed}
@@ -81,17 +81,17 @@ module _ (t : Tables) (two : IsTwo t) (hops : Bool) (n : ℕ) (cs : List Flying)
 none_among : {t : Tables} {x y : ℕ × Ordered} {es : List Event} {us : List OrderedHappening} → RunsBy (TakesNext t) x es y us → (fs : List Event) → packets_of (es ++ fs) ≡ packets_of fs
 none_among {es = es} round fs = packets_of-append es fs ∙ ap (λ l. l ++ packets_of fs) (round_packets round)
 
-rounds_run : {t : Tables} {x y : List (ℕ × List ℕ) × Ordered} {rs : List (List Event)} {us : List OrderedHappening} → RunsBy (GoesRound t) x rs y us → RunsInOrder t x.1 (concat rs) y.1 us × (packets_of (concat rs) ++ y.0 ≡ x.0)
+rounds_run : {t : Tables} {x y : List (ℕ × List ℕ) × Ordered} {rs : List (List Event)} {us : List OrderedHappening} → RunsBy (GoesRound t) x rs y us → RunsInOrder t x.1 (events_of rs) y.1 us × (packets_of (events_of rs) ++ y.0 ≡ x.0)
 rounds_run done = (done, refl)
 rounds_run {y = y} (on {es = rs} (injects {port = port} {k = k} leads round) rest) =
     let more = rounds_run rest in
-    (on leads (runs-behind (round_runs round) more.0), ap (λ l. (port, k) ∷ (l ++ y.0)) (none_among round (concat rs)) ∙ ap (λ l. (port, k) ∷ l) more.1)
+    (on leads (runs-behind (round_runs round) more.0), ap (λ l. (port, k) ∷ (l ++ y.0)) (none_among round (events_of rs)) ∙ ap (λ l. (port, k) ∷ l) more.1)
 rounds_run {y = y} (on {es = rs} (goes_on some round) rest) =
     let more = rounds_run rest in
-    (runs-behind (round_runs round) more.0, ap (λ l. l ++ y.0) (none_among round (concat rs)) ∙ more.1)
+    (runs-behind (round_runs round) more.0, ap (λ l. l ++ y.0) (none_among round (events_of rs)) ∙ more.1)
 
 -- each is a run of its packets to an end
 pub by_rounds_runs : (t : Tables) {ks : List (ℕ × List ℕ)} {s s' : Ordered} {es : List Event} {us : List OrderedHappening} → GoesByRounds t ks s es s' us → RunsInOrder t s es s' us × (packets_of es ≡ ks) × (s'.net.flying ≡ [])
 by_rounds_runs t {s = s} {s' = s'} {us = us} goes =
     let r = rounds_run goes.run in
-    (subst (λ es. RunsInOrder t s es s' us) (sym goes.are) r.0, ap packets_of goes.are ∙ sym (append-nil (packets_of (concat goes.rounds))) ∙ r.1, goes.rests)
+    (subst (λ es. RunsInOrder t s es s' us) (sym goes.are) r.0, ap packets_of goes.are ∙ sym (append-nil (packets_of (events_of goes.rounds))) ∙ r.1, goes.rests)

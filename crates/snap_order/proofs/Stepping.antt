@@ -49,8 +49,8 @@ module _ (t : Tables) (s : Ordered) (place : ℕ) (mid new : OrderedNetView) (do
         within = omega (arith, a, b, counted, below);
       }
 
-pub rounded_all : (old now : OrderedNetView) (done : List Moved) (place : ℕ) → length now.net.flying ≤ place → ((s : Ordered) → RepresentsInOrder old s → HasRoundedTo old.net.tables s place now done) → IsRoundDone old now done
-rounded_all old now done place over so s shows =
+pub rounded_all : (old now : OrderedNetView) (told : List Moved) (place : ℕ) → length now.net.flying ≤ place → ((s : Ordered) → RepresentsInOrder old s → HasRoundedTo old.net.tables s place now told) → IsRoundDone old now told
+rounded_all old now told place over so s shows =
     let h = so s shows in
     let a = flying_shown now h.state h.shows in
     let low = h.within in

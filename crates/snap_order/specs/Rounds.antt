@@ -1,7 +1,6 @@
 -- Rounds, in which each copy in flight makes a step, and the schedule that makes one after each injection.
-use Rattle.std.specs.Prelude.{◌≡◌, ◌≢◌, ℕ, ◌+◌, Bool, List, [], ◌∷◌, length, Ok, Err}
+use Rattle.std.specs.Prelude.{◌≡◌, ◌≢◌, ℕ, ◌+◌, Bool, List, [], ◌∷◌, flat_map, length, Ok, Err}
 use Rattle.std.specs.declared.option.Option.{Option}
-use Rattle.std.specs.List.{concat}
 use Rattle.std.specs.Io.KnownBytes.{Appends}
 use Rattle.snap_core.specs.Arrays.{zero_arrays}
 use Rattle.snap_io.specs.Sinks.{AppendsSome}
@@ -28,7 +27,7 @@ TakesFrom t i s es s' us = RunsBy (TakesNext t) (i, s) es (length s'.net.flying,
 abbrev pub IsRound : Tables → Ordered → List Event → Ordered → List OrderedHappening → Type 0
 IsRound t s es s' us = TakesFrom t 0 s es s' us
 
--- The next packet is injected, where one is left, and then a round is made; where none is left, while a copy is in flight.
+-- Where a packet is left it is injected, and then a round is made. Where none is left a round is made while a copy is in flight.
 pub data GoesRound (t : Tables) : List (ℕ × List ℕ) × Ordered → List Event → List (ℕ × List ℕ) × Ordered → List OrderedHappening → Type 0 where
   injects : {port : ℕ} {k : List ℕ} {ks : List (ℕ × List ℕ)} {s s' s'' : Ordered} {es : List Event} {us : List OrderedHappening}
       → LeadsInOrder t s (Inject port k) s' [] → IsRound t s' es s'' us
@@ -36,11 +35,15 @@ pub data GoesRound (t : Tables) : List (ℕ × List ℕ) × Ordered → List Eve
   goes_on : {s s' : Ordered} {es : List Event} {us : List OrderedHappening} → s.net.flying ≢ []
       → IsRound t s es s' us → GoesRound t ([], s) es ([], s') us
 
+-- the events of rounds, one after another
+abbrev pub events_of : List (List Event) → List Event
+events_of rounds = flat_map (λ round. round) rounds
+
 -- so it goes, round by round, until no packet is left and nothing is in flight
 pub record GoesByRounds (t : Tables) (ks : List (ℕ × List ℕ)) (s : Ordered) (es : List Event) (end : Ordered) (us : List OrderedHappening) : Type 0 where
   pub rounds : List (List Event)
   pub run : RunsBy (GoesRound t) (ks, s) rounds ([], end) us
-  pub are : es ≡ concat rounds
+  pub are : es ≡ events_of rounds
   pub rests : end.net.flying ≡ []
 
 -- from empty arrays the run of the round schedule of these packets has this report

@@ -18,15 +18,16 @@ runs_switch p (on {es = ks} (evaluates {o = o} e) rest) =
 
 switch_runs : (p : Pol) (m : Arrays) (ks : List (List ℕ)) (end : Switched) → one_big_switch p m ks ≡ Some end → RunsBy (SwitchLeads p) m ks end.arrays end.packets
 switch_runs p m [] end e = subst (λ (s : Switched). RunsBy (SwitchLeads p) m [] s.arrays s.packets) (same_Some _ end e) done
-switch_runs p m (k ∷ ks) end e = first (eval p m k) refl
+switch_runs p m (k ∷ ks) end e = first (λ o r f. switch_runs p o.arrays ks r f) (eval p m k) refl
   where
-    more : (o : Meaning) → eval p m k ≡ Some o → (r : Option Switched) → one_big_switch p o.arrays ks ≡ r → option_map (in_front o) r ≡ Some end → RunsBy (SwitchLeads p) m (k ∷ ks) end.arrays end.packets
-    more o is None f g = absurd (none-some end g)
-    more o is (Some r) f g = subst (λ (s : Switched). RunsBy (SwitchLeads p) m (k ∷ ks) s.arrays s.packets) (same_Some (in_front o r) end g) (on (evaluates is) (switch_runs p o.arrays ks r f))
+    more : (o : Meaning) → eval p m k ≡ Some o → ((r : Switched) → one_big_switch p o.arrays ks ≡ Some r → RunsBy (SwitchLeads p) o.arrays ks r.arrays r.packets)
+        → (r : Option Switched) → one_big_switch p o.arrays ks ≡ r → option_map (in_front o) r ≡ Some end → RunsBy (SwitchLeads p) m (k ∷ ks) end.arrays end.packets
+    more o is rest None f g = absurd (none-some end g)
+    more o is rest (Some r) f g = subst (λ (s : Switched). RunsBy (SwitchLeads p) m (k ∷ ks) s.arrays s.packets) (same_Some (in_front o r) end g) (on (evaluates is) (rest r f))
 
-    first : (x : Option Meaning) → eval p m k ≡ x → RunsBy (SwitchLeads p) m (k ∷ ks) end.arrays end.packets
-    first None is = absurd (none-some end (sym (ap (option_and_then (λ (o : Meaning). option_map (in_front o) (one_big_switch p o.arrays ks))) is) ∙ e))
-    first (Some o) is = more o is (one_big_switch p o.arrays ks) refl (sym (ap (option_and_then (λ (o : Meaning). option_map (in_front o) (one_big_switch p o.arrays ks))) is) ∙ e)
+    first : ((o : Meaning) (r : Switched) → one_big_switch p o.arrays ks ≡ Some r → RunsBy (SwitchLeads p) o.arrays ks r.arrays r.packets) → (x : Option Meaning) → eval p m k ≡ x → RunsBy (SwitchLeads p) m (k ∷ ks) end.arrays end.packets
+    first rest None is = absurd (none-some end (sym (ap (option_and_then (λ (o : Meaning). option_map (in_front o) (one_big_switch p o.arrays ks))) is) ∙ e))
+    first rest (Some o) is = more o is (rest o) (one_big_switch p o.arrays ks) refl (sym (ap (option_and_then (λ (o : Meaning). option_map (in_front o) (one_big_switch p o.arrays ks))) is) ∙ e)
 
 pub one_switch_runs : OneSwitchRuns
 one_switch_runs p m end ks sets = (switch_runs p m ks (record { packets = sets; arrays = end }), runs_switch p)
