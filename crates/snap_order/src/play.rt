@@ -16,7 +16,7 @@ use crate::net::{OrderedNet, open_ordered};
 use crate::round::{Rounded, round};
 use snap_core::NoMemory;
 use snap_net::happened::Moved;
-use snap_net::net::Net;
+use snap_net::net::{InjectFault, Net, StepFault};
 use snap_rows::valid::Valid;
 use snap_runs::frames::Frames;
 use snap_runs::play::{next_packet, note_step, put_blocks, reversed};
@@ -157,8 +157,9 @@ impl Playable for OrderedPlay {
         };
         match self.net.inject(ready.port, ready.packet) {
             Ok(_) => {}
-            // The port is one of the tables', so only memory can be short.
-            Err(_) => return Err(NoMemory),
+            Err(InjectFault::NoMemory) => return Err(NoMemory),
+            // The port is one of the tables'.
+            Err(InjectFault::NoPort) => unreachable!(),
         }
         let tally = Tally::new(self.alloc);
         self.tallies.push(tally)?;
@@ -172,8 +173,9 @@ impl Playable for OrderedPlay {
         }
         let moved = match self.net.advance(place) {
             Ok(moved) => moved,
-            // There is such a copy, so only memory can be short.
-            Err(_) => return Err(NoMemory),
+            Err(StepFault::NoMemory) => return Err(NoMemory),
+            // There is such a copy.
+            Err(StepFault::NoCopy) => unreachable!(),
         };
         let net = self.net.network();
         note_step(

@@ -14,7 +14,7 @@ use crate::tracer::fields_of;
 use snap_core::NoMemory;
 use snap_core::program::Fields;
 use snap_net::happened::Moved;
-use snap_net::net::{Net, open_net};
+use snap_net::net::{InjectFault, Net, StepFault, open_net};
 use snap_rows::valid::Valid;
 use std::alloc::Global;
 
@@ -85,8 +85,9 @@ impl Playable for Play {
         };
         match self.net.inject(ready.port, ready.packet) {
             Ok(_) => {}
-            // The port is one of the tables', so only memory can be short.
-            Err(_) => return Err(NoMemory),
+            Err(InjectFault::NoMemory) => return Err(NoMemory),
+            // The port is one of the tables'.
+            Err(InjectFault::NoPort) => unreachable!(),
         }
         let tally = Tally::new(self.alloc);
         self.tallies.push(tally)?;
@@ -100,8 +101,9 @@ impl Playable for Play {
         }
         let moved = match self.net.advance(place) {
             Ok(moved) => moved,
-            // There is such a copy, so only memory can be short.
-            Err(_) => return Err(NoMemory),
+            Err(StepFault::NoMemory) => return Err(NoMemory),
+            // There is such a copy.
+            Err(StepFault::NoCopy) => unreachable!(),
         };
         note_step(
             &mut self.tallies,
