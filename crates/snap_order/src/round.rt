@@ -10,6 +10,7 @@ use crate::lent::{lend, reassemble, work_out};
 use crate::net::OrderedNet;
 use snap_core::NoMemory;
 use snap_net::happened::Moved;
+use snap_net::net::StepFault;
 use std::thread::Threads;
 
 /// An ordered network after a round, and what each step of the round gave, in their order.
@@ -117,8 +118,9 @@ fn step_all(net: &mut OrderedNet) -> Result<Vec<Moved>, NoMemory>
         let left = net.flying() - place - 1;
         let moved = match net.advance(place) {
             Ok(moved) => moved,
-            // There is such a copy, so only memory can be short.
-            Err(_) => return Err(NoMemory),
+            Err(StepFault::NoMemory) => return Err(NoMemory),
+            // There is such a copy.
+            Err(StepFault::NoCopy) => unreachable!(),
         };
         done.push(moved)?;
         place = net.flying() - left;
