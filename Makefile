@@ -4,7 +4,7 @@ JOBS ?= $(shell nproc)
 SOURCES = crates.txt $(shell find crates -name out -prune -o \( -name '*.rt' -o -name '*.antt' \) ! -path '*_tests/*' -print)
 CODE = $(filter-out %.antt,$(SOURCES))
 
-.PHONY: all run test install install-unproved uninstall pictures clean help
+.PHONY: all run test install install-unproved uninstall pictures html clean help
 .DELETE_ON_ERROR:
 
 #: make                    proves snapc and builds bin/snapc; JOBS=N: N crates side by side, or else one for each processor
@@ -38,6 +38,7 @@ test:
 	examples/hostile bin/snapc
 	examples/refused bin/snapc
 	contrib/shown bin/snapc
+	contrib/links
 	SNAPC=bin/snapc contrib/check
 
 # What goes where, and the program first; nothing is built or proved here, so that it may run under sudo.
@@ -68,6 +69,10 @@ uninstall:
 #: make pictures           draws the pictures of docs/GALLERY.md anew, with bin/snapc and Graphviz's dot
 pictures:
 	tools/pictures bin/snapc
+
+#: make html               makes the pages a site in out/html, by pandoc
+html:
+	tools/html out/html
 
 #: make clean              removes what was built and what is kept of proofs
 clean:
