@@ -1,5 +1,5 @@
--- Makes a page a page of the site, for tools/html. The first heading becomes its title, links to pages lead to what they become, and
--- the files that it links are written to the file that LINKED in the environment names, a line each.
+-- Makes a page a page of the site, for tools/html. The first heading becomes its title, and links to pages lead to what
+-- these become. Other files that it links are written to the file that LINKED in the environment names, a line each.
 local linked = assert(io.open(os.getenv('LINKED'), 'w'))
 
 -- Whether a target is a file here.
@@ -23,9 +23,13 @@ function Image(image)
   end
 end
 
--- In a transcript commands stand out from what they print.
+-- A file has its name above it. In a transcript commands stand out from what they print.
 function CodeBlock(block)
-  if block.classes[1] == 'console' then
+  local language, file = (block.classes[1] or ''):match('^(.-):(.*)$')
+  if file then
+    block.classes = { language }
+    return { pandoc.Div({ pandoc.Plain({ pandoc.Str(file) }) }, { class = 'file' }), block }
+  elseif block.classes[1] == 'console' then
     local lines = {}
     for line in (block.text .. '\n'):gmatch('(.-)\n') do
       local text = line:gsub('&', '&amp;'):gsub('<', '&lt;')
