@@ -92,10 +92,10 @@ class Diagram:
 
     def leaf(self, number):
         row = self.rows[number]
-        rows = [cell(self.names.update(update), self.colours[update.array], align="LEFT")
+        rows = [cell(self.names.update(update), self.colours[update.array])
                 for stage in row.stages for update in stage.updates]
         outs = [("+ " if at else "") + self.names.out(out) for at, out in enumerate(row.outs)]
-        rows += [cell(out, TAIL, align="LEFT") for out in outs] or [cell("drop", DROP, align="LEFT")]
+        rows += [cell(out, TAIL) for out in outs] or [cell("drop", DROP)]
         return f"  n{number} [label={cells(rows)}];"
 
     def test(self, number, node):

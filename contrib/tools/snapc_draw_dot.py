@@ -1,4 +1,7 @@
 """What all drawings share: texts in the language of Graphviz, tables of cells, colours, and pictures made by `dot`."""
+import math
+
+from snapc_draw_widths import text_width
 from snapc_tool import BYTES, Fault
 
 FONT = "Helvetica,Arial,sans-serif"
@@ -7,6 +10,7 @@ DARK = ["#1f78b4", "#2e8b2a", "#d96c00", "#6a3d9a", "#d0161a", "#8f7a00"]  # wha
 INK = ["#b2182b", "#2166ac", "#762a83", "#1b7837", "#8c510a", "#01665e"]  # packets, where several are drawn
 PLAIN = "#333333"
 PALE = "#999999"
+PADDING = 4  # points around the text of a cell
 
 
 def of(colours, number):
@@ -31,17 +35,19 @@ def escaped(text):
     return printable(text)
 
 
-def cell(text, colour="white", bold=False, port=None, align=None):
-    """A row with one cell, whose colour is behind its text; an edge may begin at its port."""
+def cell(text, colour="white", bold=False, port=None):
+    """A row with one cell, whose colour is behind its text; an edge may begin at its port. The text stands at the left: `dot` tells
+    where its lines begin, so that in the middle a wider font than that of `dot` would go beyond the right side only."""
+    width = math.ceil(text_width(text, bold=bold)) + 2 * (PADDING + 1)
     text = escaped(text)
     text = f"<B>{text}</B>" if bold else text
-    more = (f' PORT="{port}"' if port is not None else "") + (f' ALIGN="{align}"' if align else "")
-    return f'<TR><TD BGCOLOR="{colour}"{more}>{text}</TD></TR>'
+    more = f' PORT="{port}"' if port is not None else ""
+    return f'<TR><TD BGCOLOR="{colour}"{more} WIDTH="{width}" ALIGN="LEFT" BALIGN="LEFT">{text}</TD></TR>'
 
 
 def cells(rows):
     """A label of rows, one below the other."""
-    return '<<TABLE BORDER="0" CELLBORDER="1" CELLSPACING="0" CELLPADDING="4">' + "".join(rows) + "</TABLE>>"
+    return f'<<TABLE BORDER="0" CELLBORDER="1" CELLSPACING="0" CELLPADDING="{PADDING}">' + "".join(rows) + "</TABLE>>"
 
 
 def edge(source, target, **settings):

@@ -8,6 +8,7 @@ from dataclasses import dataclass, field
 from typing import Dict, List, Tuple
 
 from snapc_draw_dot import LIGHT, PALE, PLAIN, cell, cells, edge, graph, of, quoted
+from snapc_draw_widths import text_width
 
 MOST_SWITCHES = 256  # that tables have
 
@@ -115,7 +116,7 @@ class Layout:
 
 def width(lines):
     """About how many inches a table of these lines takes, with what is free beside it."""
-    return max(1.5, 0.3 + 0.07 * max(len(line) for text in lines for line in text.split("\n")))
+    return max(1.5, 0.5 + max(text_width(text, bold=at == 0) for at, text in enumerate(lines)) / 72)
 
 
 def ranges(numbers):
@@ -187,7 +188,9 @@ def arrow_lines(layout, arrows):
     for ends, named in texts.items() if layout.layers else ():
         for at, (node, arrow) in enumerate(named, 1):
             place = layout.between(*ends, at / (len(named) + 1))
-            lines.append(f'  {node} [label={quoted(arrow.text)}, fontsize=11, fontcolor="{arrow.colour}", style=filled, fillcolor=white{place}];')
+            box = f"shape=box, color=white, margin=0.02, height=0, width={text_width(arrow.text, 11) / 72 + 0.05:.2f}"
+            lines.append(f'  {node} [label={quoted(arrow.text)}, fontsize=11, fontcolor="{arrow.colour}", {box}, style=filled, '
+                         f'fillcolor=white{place}];')
     return lines
 
 
@@ -201,7 +204,8 @@ def passage_lines(network, layout, passages):
         others = beside[switch]
         node = f"{'out' if passage.is_exit else 'in'}{passage.port}"
         place = layout.place(switch, right=0.5 * (2 * others.index(passage) - len(others) + 1), up=-1)
-        lines.append(f'  {node} [shape=circle, margin=0.04, width=0.3, label="{passage.port}"{place}];')
+        across = max(0.3, text_width(str(passage.port)) / 72 + 0.15)
+        lines.append(f'  {node} [shape=circle, margin=0.04, width={across:.2f}, label="{passage.port}"{place}];')
         ends, way = [node, f"s{switch}"], "back" if passage.is_exit else "forward"
         if layout.distance[switch] == max(layout.distance) > 0 or passage.is_exit and layout.distance[switch] > 0:
             ends, way = ends[::-1], "forward" if passage.is_exit else "back"
