@@ -47,7 +47,7 @@ define install_it
 	tools/install $(1) $(DESTDIR)$(PREFIX)
 endef
 
-#: make install            installs bin/snapc, man page, completions and tools under PREFIX=/usr/local, and DESTDIR before that
+#: make install            installs bin/snapc, man page, completions and tools under DESTDIR and PREFIX=/usr/local
 install:
 	$(call install_it,bin/snapc,make)
 
