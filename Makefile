@@ -4,7 +4,7 @@ JOBS ?= $(shell nproc)
 SOURCES = crates.txt $(shell find crates -name out -prune -o \( -name '*.rt' -o -name '*.antt' \) ! -path '*_tests/*' -print)
 CODE = $(filter-out %.antt,$(SOURCES))
 
-.PHONY: all run test install install-unproved uninstall pictures html clean help
+.PHONY: all run test install install-unproved uninstall dist pictures html clean help
 .DELETE_ON_ERROR:
 
 #: make                    proves snapc and builds bin/snapc; JOBS=N: N crates side by side, or else one for each processor
@@ -41,20 +41,14 @@ test:
 	contrib/links
 	SNAPC=bin/snapc contrib/check
 
-# What goes where, and the program first; nothing is built or proved here, so that it may run under sudo.
-SHARE = $(DESTDIR)$(PREFIX)/share
-INSTALLED = $(DESTDIR)$(PREFIX)/bin/snapc $(SHARE)/man/man1/snapc.1 \
-	$(SHARE)/bash-completion/completions/snapc $(SHARE)/zsh/site-functions/_snapc
+# tools/install knows what goes where. Nothing is built or proved here, so that it may run under sudo.
+# Words: the built program, and what builds it.
 define install_it
 	@test -f $(1) || { echo '$(1) is not there: $(2) builds it'; exit 1; }
-	mkdir -p $(dir $(INSTALLED))
-	install -m 755 $(1) $(word 1,$(INSTALLED))
-	install -m 644 contrib/snapc.1 $(word 2,$(INSTALLED))
-	install -m 644 contrib/snapc.bash $(word 3,$(INSTALLED))
-	install -m 644 contrib/_snapc $(word 4,$(INSTALLED))
+	tools/install $(1) $(DESTDIR)$(PREFIX)
 endef
 
-#: make install            installs bin/snapc, its man page and completions under PREFIX=/usr/local, and DESTDIR before that
+#: make install            installs bin/snapc, man page, completions and tools under DESTDIR and PREFIX=/usr/local
 install:
 	$(call install_it,bin/snapc,make)
 
@@ -64,7 +58,12 @@ install-unproved:
 
 #: make uninstall          removes what was installed
 uninstall:
-	rm -f $(INSTALLED)
+	tools/install --remove $(DESTDIR)$(PREFIX)
+
+#: make dist               makes a tarball and a Debian package of bin/snapc, in dist/
+dist:
+	@test -f bin/snapc || { echo 'bin/snapc is not there: make builds it'; exit 1; }
+	@tools/dist bin/snapc dist
 
 #: make pictures           draws the pictures of docs/GALLERY.md anew, with bin/snapc and Graphviz's dot
 pictures:
@@ -76,7 +75,7 @@ html:
 
 #: make clean              removes what was built and what is kept of proofs
 clean:
-	rm -rf bin out crates/*/out
+	rm -rf bin dist out crates/*/out
 
 #: make help               this list
 help:
