@@ -19,7 +19,8 @@ from snapc_nearest import hint, listed, shown
 from snapc_program import Program
 from snapc_tool import BYTES
 
-ARTICLES = {"tables": "a file of tables", "packets": "a packets file", "changes": "a changes file", "schedule": "a schedule", "report": "a report",
+ARTICLES = {"tables": "a file of tables", "packets": "a packets file", "changes": "a changes file",
+            "schedule": "a schedule", "report": "a report",
             "program": "a program", "topology": "a topology", "placement": "a placement", "demand": "a demand"}
 LIMITS = {"components": 64, "arrays": 64, "atoms": "8 in an index", "nodes": 2000, "weight": 16777216, "switches": 256, "links": 4096,
           "ports": 1024, "demands": 65536, "changes": 16}

@@ -228,11 +228,12 @@ def of_demand(text, arrays, switches, ports, fault=""):
     for at, flow in good:
         for side in (0, 1):
             if flow[side] not in ports:
-                document.find(f"no port {flow[side]}", f"the ports of the topology are {listed(map(str, sorted(ports)))}", ("demand", at, side))
+                cause = f"the ports of the topology are {listed(map(str, sorted(ports)))}"
+                document.find(f"no port {flow[side]}", cause, ("demand", at, side))
     for key in sorted(allowed):
         if key not in arrays and is_name(key):
-            document.find(f"no array {key}", "the program has none of this name" + (hint(key, arrays) or f"; its arrays are {listed(arrays)}"),
-                          ("allowed", key), True)
+            near = hint(key, arrays) or f"; its arrays are {listed(arrays)}"
+            document.find(f"no array {key}", "the program has none of this name" + near, ("allowed", key), True)
     for key in arrays:
         for at, one in enumerate(allowed[key] if isinstance(allowed.get(key), list) else []):
             if is_switch(one) and one not in switches:
