@@ -229,6 +229,16 @@ def read_entry(tables, kind, words):
         raise words.fault(f"{words.word()[:40]} stands behind the end of the line's form")
 
 
+def read_line(tables, line, text, stage):
+    """Reads a line, which may be of an entry from a stage on; the stage of the lines behind it."""
+    words = Words(tables, line, text.split(" "))
+    kind = words.word()
+    if kind not in ORDER[stage:]:
+        raise words.fault(f"{kind[:40]} can't stand here")
+    read_entry(tables, kind, words)
+    return ORDER.index(kind)
+
+
 def read_tables(name):
     """The tables of a file."""
     tables, stage, lines = Tables(name), 0, read_text(name).split("\n")
@@ -238,12 +248,7 @@ def read_tables(name):
         raise Fault(name, len(lines), "the tables have no end")
     tables.version = int(lines[0][-1])
     for line, text in enumerate(lines[1:-2], 2):
-        words = Words(tables, line, text.split(" "))
-        kind = words.word()
-        if kind not in ORDER[stage:]:
-            raise words.fault(f"{kind[:40]} can't stand here")
-        stage = ORDER.index(kind)
-        read_entry(tables, kind, words)
+        stage = read_line(tables, line, text, stage)
     if [one.name for one in tables.fields[:2]] != ["inport", "outport"] or not tables.switches:
         raise Fault(name, 2, "the fields inport and outport or the switches are missing")
     return tables

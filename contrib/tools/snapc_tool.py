@@ -21,7 +21,7 @@ class Fault(Exception):
     def __init__(self, file, line, text):
         shown = os.fsencode(file).decode(BYTES)
         super().__init__(f"{shown}:{line}: {text}" if line else f"{shown}: {text}")
-        self.line = line
+        self.line, self.text = line, text
 
 
 class Usage(Exception):
