@@ -41,7 +41,8 @@ def token_cause(program):
     """Why no tree goes on at a token, as far as that is sure."""
     token, wanted = program.broken
     at = program.tokens.index(token)
-    before, after = ([Token("", "", 0)] * 2 + program.tokens + [token])[at:at + 2][1], (program.tokens + [token])[at + 1]
+    before = program.tokens[at - 1] if at else Token("", "", 0)
+    after = program.tokens[at + 1] if at + 1 < len(program.tokens) else token
     joined = before.offset + len(before.text) == token.offset
     if token.kind == "end" and at == 0:
         return "the file has no program"
