@@ -4,7 +4,7 @@ JOBS ?= $(shell nproc)
 SOURCES = crates.txt $(shell find crates -name out -prune -o \( -name '*.rt' -o -name '*.antt' \) ! -path '*_tests/*' -print)
 CODE = $(filter-out %.antt,$(SOURCES))
 
-.PHONY: all run test install install-unproved uninstall pictures clean help
+.PHONY: all run check test install install-unproved uninstall pictures clean help
 .DELETE_ON_ERROR:
 
 #: make                    proves snapc and builds bin/snapc; JOBS=N: N crates side by side, or else one for each processor
@@ -25,20 +25,16 @@ bin/snapc-unproved: $(CODE) tools/build-unproved
 	mkdir -p bin
 	tools/build-unproved $@
 
-#: make test               the gate: all proofs, tests and must-fail edits, then the examples and the docs with the program
+#: make check              in minutes: all that runs, with bin/snapc-unproved: examples, random networks, pages, tools; JOBS=N as above
+check: bin/snapc-unproved
+	JOBS=$(JOBS) tools/check bin/snapc-unproved
+
+#: make test               the gate: all proofs, tests and must-fail edits, then the same as make check with the proved program
 test:
 	rt ci
 	mkdir -p bin
 	install -m 755 crates/snapc/out/snapc bin/snapc
-	examples/check bin/snapc
-	examples/placements bin/snapc
-	examples/networks bin/snapc
-	examples/upgrades bin/snapc
-	examples/demonstrations bin/snapc
-	examples/hostile bin/snapc
-	examples/refused bin/snapc
-	contrib/shown bin/snapc
-	SNAPC=bin/snapc contrib/check
+	JOBS=$(JOBS) tools/check bin/snapc
 
 # What goes where, and the program first; nothing is built or proved here, so that it may run under sudo.
 SHARE = $(DESTDIR)$(PREFIX)/share
