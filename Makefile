@@ -25,11 +25,11 @@ bin/snapc-unproved: $(CODE) tools/build-unproved
 	mkdir -p bin
 	tools/build-unproved $@
 
-#: make check              in minutes: all that runs, with bin/snapc-unproved: examples, random networks, pages, tools; JOBS=N as above
+#: make check              in minutes: all that runs, with bin/snapc-unproved; JOBS=N: N checks side by side
 check: bin/snapc-unproved
 	JOBS=$(JOBS) tools/check bin/snapc-unproved
 
-#: make test               the gate: all proofs, tests and must-fail edits, then the same as make check with the proved program
+#: make test               the gate: all proofs, tests and must-fail edits, then the list of make check, with bin/snapc
 test:
 	rt ci
 	mkdir -p bin
