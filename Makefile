@@ -4,7 +4,7 @@ JOBS ?= $(shell nproc)
 SOURCES = crates.txt $(shell find crates -name out -prune -o \( -name '*.rt' -o -name '*.antt' \) ! -path '*_tests/*' -print)
 CODE = $(filter-out %.antt,$(SOURCES))
 
-.PHONY: all run test install install-unproved uninstall dist pictures html clean help
+.PHONY: all run check test install install-unproved uninstall dist pictures html clean help
 .DELETE_ON_ERROR:
 
 #: make                    proves snapc and builds bin/snapc; JOBS=N: N crates side by side, or else one for each processor
@@ -25,21 +25,16 @@ bin/snapc-unproved: $(CODE) tools/build-unproved
 	mkdir -p bin
 	tools/build-unproved $@
 
-#: make test               the gate: all proofs, tests and must-fail edits, then the examples and the docs with the program
+#: make check              in minutes: all that runs, with bin/snapc-unproved; JOBS=N: N checks side by side
+check: bin/snapc-unproved
+	JOBS=$(JOBS) tools/check bin/snapc-unproved
+
+#: make test               the gate: all proofs, tests and must-fail edits, then the list of make check, with bin/snapc
 test:
 	rt ci
 	mkdir -p bin
 	install -m 755 crates/snapc/out/snapc bin/snapc
-	examples/check bin/snapc
-	examples/placements bin/snapc
-	examples/networks bin/snapc
-	examples/upgrades bin/snapc
-	examples/demonstrations bin/snapc
-	examples/hostile bin/snapc
-	examples/refused bin/snapc
-	contrib/shown bin/snapc
-	contrib/links
-	SNAPC=bin/snapc contrib/check
+	JOBS=$(JOBS) tools/check bin/snapc
 
 # tools/install knows what goes where. Nothing is built or proved here, so that it may run under sudo.
 # Words: the built program, and what builds it.
