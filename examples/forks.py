@@ -1,23 +1,15 @@
-#!/usr/bin/env python3
-"""Writes the numbers of packets in the order in which they fork when a schedule is followed, where the tables have one owner.
-
-usage: forks TABLES PACKETS SCHEDULE
+"""Which tables have a single owner, and in which order packets fork there when a schedule is followed.
 
 Tables have a single owner where no packet meets arrays at two switches: in version 2 where all arrays stand at one switch, in version
 1 where each way from number 0 to a leaf meets the arrays of one switch alone. Whatever the schedule, the network does then what one big
-switch does with the packets in that order. A number counts from 1.
-
-Status: 0; 1 where the words are no call; 2 where a file can't be read; 4 where the tables have several owners.
+switch does with the packets in that order.
 """
 import os
 import sys
 
 sys.path.insert(0, os.path.join(os.path.dirname(os.path.realpath(__file__)), "..", "contrib", "tools"))
-sys.dont_write_bytecode = True
-from snapc_files import read_packets, read_tables
 from snapc_steps import Network
 from snapc_tables import Equal, Go, Leaf, State, Stop, Value
-from snapc_tool import Usage, read_text, run
 
 
 def is_single_owner(tables):
@@ -43,14 +35,10 @@ def is_single_owner(tables):
     return True
 
 
-def forks(words):
-    if len(words) != 3:
-        raise Usage
-    tables = read_tables(words[0])
-    if not is_single_owner(tables):
-        return "", 4
-    network, packets, order, injected = Network(tables), read_packets(words[1], tables), [], 0
-    for line in read_text(words[2]).splitlines():
+def forks(tables, packets, schedule):
+    """The numbers of the packets, from 0, in the order in which they fork when the lines of the schedule are followed."""
+    network, order, injected = Network(tables), [], 0
+    for line in schedule:
         if line == "inject":
             network.inject(packets[injected])
             injected += 1
@@ -61,8 +49,5 @@ def forks(words):
             network.step(place)
             same = len(network.flying) - place == rest and network.flying[place] is copy
             if not leaves and not same:
-                order.append(copy.number + 1)
-    return "".join(f"{number}\n" for number in order)
-
-
-run(__doc__, forks)
+                order.append(copy.number)
+    return order
