@@ -21,9 +21,7 @@ class Snapc:
 
     def run(self, *words):
         """Its status, and what it writes and tells, which is never both."""
-        # One pipe, and descriptors that close by themselves, start it quickest.
-        done = subprocess.run((self.program,) + words, stdin=subprocess.DEVNULL, stdout=subprocess.PIPE, stderr=subprocess.STDOUT,
-                              close_fds=False)
+        done = subprocess.run((self.program,) + words, stdin=subprocess.DEVNULL, stdout=subprocess.PIPE, stderr=subprocess.STDOUT)
         return done.returncode, done.stdout.decode()
 
     def output(self, *words):
