@@ -7,10 +7,14 @@ CODE = $(filter-out %.antt,$(SOURCES))
 .PHONY: all run check test install install-unproved uninstall dist pictures html clean help
 .DELETE_ON_ERROR:
 
+# What proves or builds begins with this.
+need_kit = @command -v rt > /dev/null || { echo "Rattle's kit isn't there: rt must be on the path"; exit 1; }
+
 #: make                    proves snapc and builds bin/snapc; JOBS=N: N crates side by side, or else one for each processor
 all: bin/snapc
 
 bin/snapc: $(SOURCES)
+	$(need_kit)
 	tools/prove $(JOBS)
 	mkdir -p bin
 	install -m 755 crates/snapc/out/snapc bin/snapc
@@ -22,6 +26,7 @@ run:
 	@tools/run bin/snapc-unproved
 
 bin/snapc-unproved: $(CODE) tools/build-unproved
+	$(need_kit)
 	mkdir -p bin
 	tools/build-unproved $@
 
@@ -31,6 +36,7 @@ check: bin/snapc-unproved
 
 #: make test               the gate: all proofs, tests and must-fail edits, then the list of make check, with bin/snapc
 test:
+	$(need_kit)
 	rt ci
 	mkdir -p bin
 	install -m 755 crates/snapc/out/snapc bin/snapc
