@@ -7,7 +7,7 @@ import sys
 sys.dont_write_bytecode = True
 from snapc_tool import BYTES
 
-# What the files are that stand behind a command, in turn.
+# What the files are that follow a command, in turn.
 FILES = {
     "obs": ["program", "packets"], "deps": ["program"], "check": ["program"], "equal": ["program", "program"],
     "routes": ["topology"], "compile": ["program", "topology", "placement"], "place": ["program", "topology", "demand"],
@@ -34,7 +34,7 @@ def lines_of(name):
 
 
 class Call:
-    """The words before a command, the command, and the files behind it, each with what it is."""
+    """The words before a command, the command, and the files after it, each with what it is."""
 
     def __init__(self, words):
         at = next((at for at, word in enumerate(words) if at and word in FILES), len(words))

@@ -6,7 +6,7 @@ sys.dont_write_bytecode = True
 from snapc_finding import Finding
 from snapc_nearest import nearest, shown
 
-MOST_LINES = 10000  # that are read behind the first bad one
+MOST_LINES = 10000  # that are read after the first bad one
 
 
 def words_of(line):
@@ -29,12 +29,12 @@ def schedule_form(words):
     if first not in ("inject", "step"):
         return first_cause(column, first, ["inject", "step"])
     if first == "inject":
-        return (rest[0][0], "nothing stands behind 'inject': it takes the next packet of the file") if rest else None
+        return (rest[0][0], "nothing follows 'inject': it takes the next packet of the file") if rest else None
     if not rest:
-        return column, "a number is missing behind 'step': the copy's place among those in flight, from 0"
+        return column, "a number is missing after 'step': the copy's place among those in flight, from 0"
     if not re.fullmatch("[0-9]+", rest[0][1]):
         return rest[0][0], f"{shown(rest[0][1])} is no number in digits"
-    return (rest[1][0], "nothing stands behind the number of a 'step'") if len(rest) > 1 else None
+    return (rest[1][0], "nothing follows the number of a 'step'") if len(rest) > 1 else None
 
 
 def of_schedule(lines, number, packets):

@@ -11,7 +11,7 @@ from snapc_program import address_fault
 from snapc_tables import MOST, Field
 
 LONGEST = 65536  # bytes of a line
-MOST_LINES = 10000  # that are read behind the first bad one
+MOST_LINES = 10000  # that are read after the first bad one
 
 
 class Scope(NamedTuple):
@@ -72,7 +72,7 @@ def number_cause(text):
     if number_of(text) is not None:
         return ""
     if not text:
-        return "a value is missing behind '='"
+        return "a value is missing after '='"
     if re.fullmatch("[0-9]+", text):
         return f"{shown(text)} is above {MOST}"
     if re.fullmatch(r"[0-9.]+/[0-9]*", text):

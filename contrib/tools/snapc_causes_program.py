@@ -15,7 +15,7 @@ BYTES = {
     ",": "each part of an index has brackets of its own, as s[inport][outport]", "~": "'!' negates", "^": "'!' negates",
     ":": "'<-' assigns, and '=' stands in a 'const'", "\"": "there are no strings", "'": "there are no strings",
     "-": "'--' takes 1 away, '-=' a number, and '<-' assigns", "*": "there is no product", "%": "there is no remainder",
-    ".": "a name has a letter, a digit or '_' behind each dot", "\0": "this is no text: a byte is 0"}
+    ".": "a name has a letter, a digit or '_' after each dot", "\0": "this is no text: a byte is 0"}
 UTF_16 = ("\xff\xfe", "\xfe\xff")
 WORDS = {"and": "'&' stands for 'and'", "or": "'|' stands for 'or'", "not": "'!' stands for 'not'",
          "elif": "'else if' stands for 'elif'"}
@@ -56,11 +56,11 @@ def token_cause(program):
     if token.kind in KEYWORDS and wanted == {"name"}:
         return f"{shown(token.text)} is a keyword, and a name is wanted"
     if token.kind == ";" and before.kind == "}":
-        return "no ';' stands behind the '}' of a 'let'"
+        return "no ';' follows the '}' of a 'let'"
     if before.kind == ";" and token.kind in ("end", "else", ")", "}"):
         if program.depth == 0 and token.kind == "end" and "field" in wanted:
-            return "a policy is wanted behind the declarations"
-        return "';' stands between two parts, and not behind the last"
+            return "a policy is wanted after the declarations"
+        return "';' stands between two parts, and not after the last"
     if "else" in wanted and token.kind in ("end", ")", "}") or wanted == {"else"}:
         opened = next(one for one in reversed(program.open) if one.kind == "if")
         return f"the 'if' at {program.shown_place(opened.offset)} has no 'else'; 'else id' where nothing is to be done"
@@ -96,16 +96,17 @@ def mended(program, at, wanted):
     tokens, here = program.tokens, program.tokens[at]
     if len(tokens) > MOST_TOKENS:
         return ""
-    for left, right, cause in ([(at, at, "{0} is missing before {1}")] + [(at, at + 1, "{0} stands in place of {1}")]):
-        for kind in SIGNS:
-            if kind in wanted and (here.kind != "end" or left == right):
-                made = tokens[:left] + [Token(kind, kind, here.offset)] + tokens[right:]
-                if in_form(program, made):
-                    behind = word(here.kind) if here.kind == "end" else shown(here.text)
-                    return cause.format(shown(kind), behind) if left == right else f"{shown(kind)} is wanted in place of {behind}"
-    if here.kind != "end" and in_form(program, tokens[:at] + tokens[at + 1:]):
-        return f"without {shown(here.text)} the text is in form"
-    return ""
+    there = word(here.kind) if here.kind == "end" else shown(here.text)
+    signs = [Token(kind, kind, here.offset) for kind in SIGNS if kind in wanted]
+    for sign in signs:
+        if in_form(program, tokens[:at] + [sign] + tokens[at:]):
+            return f"{shown(sign.kind)} is missing before {there}"
+    if here.kind == "end":
+        return ""
+    for sign in signs:
+        if in_form(program, tokens[:at] + [sign] + tokens[at + 1:]):
+            return f"{shown(sign.kind)} is wanted in place of {there}"
+    return f"without {there} the text is in form" if in_form(program, tokens[:at] + tokens[at + 1:]) else ""
 
 
 def in_form(program, tokens):

@@ -73,7 +73,7 @@ def cause_of_line(number, text, last):
         return "the last line is 'end', and it is missing" if last else "an empty line stands in no tables"
     if text.startswith("#"):
         return "tables have no comments"
-    return "" if text == " ".join(text.split()) else "words have one blank between, and none before or behind them"
+    return "" if text == " ".join(text.split()) else "words have one blank between, and none before or after them"
 
 
 def of_rule(lines, rule, number):

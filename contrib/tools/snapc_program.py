@@ -1,4 +1,4 @@
-"""A reader of programs, as docs/LANGUAGE.md describes them, that goes on behind a broken rule of names and finds all of them.
+"""A reader of programs, as docs/LANGUAGE.md describes them, that goes on after a broken rule of names and finds all of them.
 
 What it finds comes in the order in which snapc would say it: a text that has no tokens or no tree first, then by place.
 """
@@ -313,13 +313,13 @@ class Program:
         if self.sees("=", "<-"):
             sign = self.take().kind
             if name and name.kind not in ("plain", "split"):
-                brackets = "an index in brackets stands behind it" if name.kind == "array" else "a field is wanted here"
+                brackets = "an index in brackets follows it" if name.kind == "array" else "a field is wanted here"
                 self.find("wrong kind", token.offset, f"{shown(token.text)} is {KINDS[name.kind]}: {brackets}")
                 name = None
             self.fits(name, sign, self.value())
             return Part(sign == "=")
         if name and name.kind != "let":
-            uses = "a policy is wanted here" if name.kind == "const" else "an index in brackets stands behind it"
+            uses = "a policy is wanted here" if name.kind == "const" else "an index in brackets follows it"
             if name.kind in ("plain", "split"):
                 uses = "'=' tests it and '<-' changes it"
             self.find("wrong kind", token.offset, f"{shown(token.text)} is {KINDS[name.kind]}: {uses}")
