@@ -20,7 +20,7 @@ class Snapc:
         self.program = program
 
     def run(self, *words):
-        """Its status, and what it writes and tells, which is never both."""
+        """Its status, and its output or its message, of which a call has one."""
         done = subprocess.run((self.program,) + words, stdin=subprocess.DEVNULL, stdout=subprocess.PIPE, stderr=subprocess.STDOUT)
         return done.returncode, done.stdout.decode()
 

@@ -30,7 +30,8 @@ def text_of(name):
 @functools.lru_cache(maxsize=8)
 def lines_of(name):
     """The lines of a file without their ends."""
-    return [line[:-1] if line.endswith("\r") else line for line in text_of(name).split("\n")] if text_of(name) else []
+    text = text_of(name)
+    return [line[:-1] if line.endswith("\r") else line for line in text.split("\n")] if text else []
 
 
 class Call:
